@@ -4,8 +4,9 @@
 Use: checks/plain_picture.py [REPORTS]     The last line is 'N passed, M failed'; the exit code is 0 where none failed.
      checks/plain_picture.py --write       writes docs/picture.svg, the picture of traces/shuffle-24x40.txt, anew.
 
-The bars, their coflows and their colours, the curve, the frames, the marks and numbers of the axes, the title and the legend are compared, no two labels overlap, and the bars of a worked
-schedule are those that were worked out by hand. Refusals of windows, sides and too many bars are tried, and docs/picture.svg is compared. Where `rsvg-convert` is there, each picture is rendered by it too.
+The bars, their coflows, their colours and the line around them, the ids and marks on them, the curve, the lines of the means, the frames, the axes, the title and the legend are compared, no
+two labels overlap, no id is wider than its bar, and the bars of a worked schedule are those that were worked out by hand. Refusals of windows, sides and too many bars are tried, and
+docs/picture.svg is compared. Where `rsvg-convert` is there, each picture is rendered by it too.
 A drawn trace whose schedule has no slot has no picture: it is to be refused, and such traces are counted apart.
 """
 import os
@@ -16,123 +17,27 @@ import subprocess
 import sys
 import tempfile
 import xml.etree.ElementTree as tree
-from collections import namedtuple
 
 sys.dont_write_bytecode = True
-from plain_plan import KINDS, TOP, drawn, plan_of, trace_text, up, weights_text, write
+from plain_plan import KINDS, TOP, drawn, plan_of, trace_text, weights_text, write
+from shown_picture import Shown, expected, runs_of
 
 PROGRAM = os.path.join(TOP, "crates", "sincronia_picture", "out", "sincronia_picture")
 PLANNER = os.path.join(TOP, "crates", "sincronia", "out", "sincronia")
 SHOWN = os.path.join(TOP, "docs", "picture.svg")
 RENDERER = shutil.which("rsvg-convert")
 SVG = "{http://www.w3.org/2000/svg}"
-COLOURS = ["#0072b2", "#e69f00", "#009e73", "#d55e00", "#56b4e9", "#cc79a7", "#f0e442", "#000000"]
-GREY = "#bbbbbb"
 DIGIT = 8.3  # how wide a digit of a label is at most
 OTHER = 7.0  # and another sign, where there are several
 
-# What a picture shows, each part as it is found in it. A bar is (port, first, last, id, colour), a step of the curve (x, completed), a box (x, y, width, height), a label (x, y, anchor, words).
-Shown = namedtuple("Shown", "title bars curve legend boxes labels")
 
-
-def runs_of(text):
-    """The runs of a report, each with its first slot, its last slot and its flows."""
-    runs, slots = [], 0
-    for line in text.split("\n"):
-        if line.startswith("run "):
-            length, *flows = map(int, line.split()[1:])
-            runs.append((slots + 1, slots + length, flows))
-            slots += length
-    return runs
-
-
-def bars_of(flows, runs, side, ports, first, last):
-    """For each port the stretches of the window in which it serves one coflow."""
-    rows = [[] for _ in range(ports)]
-    for start, end, numbers in runs:
-        start, end = max(start, first), min(end, last)
-        if start > end:
-            continue
-        for number in numbers:
-            flow = flows[number]
-            row = rows[(flow.ingress, flow.egress)[side]]
-            if row and row[-1][0] == flow.coflow and row[-1][2] == start - 1:
-                row[-1][2] = end
-            else:
-                row.append([flow.coflow, start, end])
-    return rows
-
-
-def legend_of(weights):
-    """The eight coflows with the most weight, in order."""
-    return sorted(range(len(weights)), key=lambda c: (-weights[c], c))[:8]
-
-
-def title_of(cost, bound):
-    words = "cost %d, bound %d" % (cost, bound)
-    if bound == 0:
-        return words
-    return words + ", at most %d.%02d times the best" % divmod(up(100 * cost, bound), 100)
-
-
-def step_of(count):
-    """The least of 1, 2 and 5 times a power of ten of which six are no fewer than the count."""
-    power = 1
-    while True:
-        for step in (power, 2 * power, 5 * power):
-            if 6 * step >= count:
-                return step
-        power *= 10
-
-
-def slot_axis(first, last, end):
-    """The marks of round slots below where bars or curve end, and the labels of the axis."""
-    count = last - first + 1
-    step = step_of(count)
-    marks, labels = [], [(430, end + 36, "middle", "slot")]
-    for slot in range(up(first, step) * step, last + 1, step):
-        x = 70 + (2 * (slot - first) + 1) * 720 // (2 * count)
-        marks.append((x, end, 1, 5))
-        labels.append((x, end + 18, "middle", str(slot)))
-    return marks, labels
-
-
-def axes_of(ports, coflows, first, last):
-    """The frames and the marks, and the labels of all axes."""
-    high = min(16 * ports, 480)
-    top = 60 + high + 80
-    boxes, labels = [(70, 60, 720, high), (70, top, 720, 120)], [(62, top + 4, "end", str(coflows)), (62, top + 124, "end", "0")]
-    for end in (60 + high, top + 120):
-        marks, words = slot_axis(first, last, end)
-        boxes, labels = boxes + marks, labels + words
-    for port in range(0, ports, step_of(ports)):
-        y = 60 + (2 * port + 1) * high // (2 * ports)
-        boxes.append((65, y, 5, 1))
-        labels.append((62, y + 4, "end", str(port)))
-    return boxes, labels
-
-
-def expected(plan, coflows, ports, side, first, last):
-    """What the picture shows."""
-    runs = runs_of(plan.text)
-    weights = [coflow.weight for coflow in coflows]
-    heavy = legend_of(weights)
-    fill = {c: COLOURS[place] for place, c in enumerate(heavy)}
-    bars = [
-        (port, start, end, coflows[c].ident, fill.get(c, GREY))
-        for port, row in enumerate(bars_of(plan.flows, runs, side, ports, first, last))
-        for c, start, end in row
-    ]
-    ends = [max([end for _, end, numbers in runs if any(plan.flows[f].coflow == c for f in numbers)], default=0) for c in range(len(coflows))]
-    curve = [(max(end - first + 1, 0), sum(it <= end for it in ends)) for end in sorted(set(ends))]
-    legend = [(COLOURS[place], "coflow %d, weight %d" % (coflows[c].ident, coflows[c].weight)) for place, c in enumerate(heavy)]
-    legend += [(GREY, "other coflows")] * (len(coflows) > 8)
-    boxes, labels = axes_of(ports, len(coflows), first, last)
-    return Shown(title_of(plan.cost, plan.bound), bars, curve, legend, sorted(boxes), sorted(labels))
+def number(it, *names):
+    """The attributes of these names as numbers."""
+    return tuple(int(it.get(name)) for name in names)
 
 
 def found(text, first):
-    """The same, as the parser finds it in the picture."""
+    """What the parser finds in a picture, each part as `expected` has it."""
     root = tree.fromstring(text)
     bars, curve = root.findall(SVG + "svg")
     rects = [
@@ -141,15 +46,14 @@ def found(text, first):
     ]
     coflows = int(curve.get("viewBox").split()[3])
     steps = re.findall(r"H(\d+)V(\d+)", curve[0].get("d"))[:-1]
-    # The first box is the ground. Those of the legend have a colour.
-    boxes = [(it.get("fill"), *(int(it.get(name)) for name in ("x", "y", "width", "height"))) for it in root.findall(SVG + "rect")[1:]]
-    squares = [box for box in boxes if box[0] not in (None, "none")]
-    others = [box[1:] for box in boxes if box[0] in (None, "none")]
-    words = [(int(it.get("x")), int(it.get("y")), it.get("text-anchor"), it.text) for it in root.findall(SVG + "text")]
-    labels = [label for label in words if label[2] is not None]
-    beside = [label for label in words if label[0] == 868]
-    legend = [(square[0], label[3]) for square, label in zip(squares, beside) if (square[1], square[2] + 11) == (850, label[1])]
-    return Shown(words[0][3], rects, [(int(x), coflows - int(y)) for x, y in steps], legend, sorted(others), sorted(labels))
+    ids = [(*number(it, "x", "y"), it.get("fill"), int(it.text)) for it in root.findall(SVG + "g/" + SVG + "text")]
+    lines = [(*map(int, re.fullmatch(r"M(\d+) (\d+)V(\d+)", it.get("d")).groups()), it.get("stroke-dasharray")) for it in root.findall(SVG + "path")]
+    # The first box is the ground.
+    boxes = [(*number(it, "x", "y", "width", "height"), it.get("fill")) for it in root.findall(SVG + "rect")[1:]]
+    labels = [(*number(it, "x", "y"), it.get("text-anchor"), it.text) for it in root.findall(SVG + "text")]
+    circles = [number(it, "cx", "cy") for it in root.iter(SVG + "circle")]
+    shown_steps = [(int(x), coflows - int(y)) for x, y in steps]
+    return Shown(bars.get("stroke-width"), rects, sorted(ids), sorted(circles), shown_steps, sorted(lines, key=str), sorted(boxes, key=str), sorted(labels, key=str))
 
 
 def wide(words):
@@ -157,11 +61,26 @@ def wide(words):
     return sum(DIGIT if it.isdigit() else OTHER for it in words)
 
 
+def squeezed(text):
+    """An id that is wider than its bar, or None."""
+    root = tree.fromstring(text)
+    bars = root.find(SVG + "svg")
+    scale = 720 / int(bars.get("viewBox").split()[2])
+    spans = [(int(it[0].text.split()[1]), 70 + scale * int(it.get("x")), scale * int(it.get("width"))) for it in bars.iter(SVG + "rect")]
+    for it in root.findall(SVG + "g/" + SVG + "text"):
+        x, half = int(it.get("x")), 9 / 13 * DIGIT * len(it.text) / 2
+        if not any(ident == int(it.text) and left <= x - half and x + half <= left + size for ident, left, size in spans):
+            return "%s is wider than its bar" % it.text
+    return None
+
+
 def crowded(text):
-    """Two labels that overlap, or one that is cut, or None."""
+    """Two labels that overlap, or one that is cut, or None. The title may be cut."""
     root = tree.fromstring(text)
     places = []
-    for it in root.findall(SVG + "text")[1:]:
+    for it in root.findall(SVG + "text"):
+        if it.get("y") in ("24", "44"):
+            continue
         size, x, y = wide(it.text), int(it.get("x")), int(it.get("y"))
         left = x - {None: 0, "middle": size / 2, "end": size}[it.get("text-anchor")]
         places.append((left, left + size, y - 10, y + 3, it.text))
@@ -215,7 +134,7 @@ def fault_of(folder, ports, coflows, unit, r):
             return "another %s: %r and not %r" % (part, getattr(have, part), getattr(want, part))
     if not renders(text):
         return "the renderer refuses the picture"
-    return crowded(text)
+    return crowded(text) or squeezed(text)
 
 
 # A trace of three coflows on 151 locations, the runs of its plan, and the bars of its ports, worked out by hand: each with its side, the window, the bars as (port, first slot, last slot, id).

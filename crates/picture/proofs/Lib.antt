@@ -1,6 +1,8 @@
+pub mod ColourFacts
 pub mod CurveSteps
 pub mod DrawSteps
 pub mod Keeping
+pub mod MeanFacts
 pub mod NumberText
 pub mod OneList
 pub mod ReadBack
@@ -9,4 +11,3 @@ pub mod RowSteps
 pub mod RunServes
 pub mod TextSteps
 pub mod TickSteps
-pub mod WeightSteps

@@ -37,7 +37,7 @@ digits_before (c ∷ cs) x d e =
     rw (one, digits_before cs x more e) (omega arith)
 
 -- equal texts with fronts of one length have equal fronts
-pub equal_fronts : (a b x y : List ℕ) → length a ≡ length b → a ++ x ≡ b ++ y → (a ≡ b) × (x ≡ y)
+equal_fronts : (a b x y : List ℕ) → length a ≡ length b → a ++ x ≡ b ++ y → (a ≡ b) × (x ≡ y)
 equal_fronts a b x y same e = (
   sym (take-append_seam a x) ∙ (ap (take (length a)) e ∙ (ap (λ k. take k (b ++ y)) same ∙ take-append_seam b y)),
   sym (drop-append_seam a x) ∙ (ap (drop (length a)) e ∙ (ap (λ k. drop k (b ++ y)) same ∙ drop-append_seam b y)),

@@ -1,6 +1,6 @@
 -- A text tells one list of bars.
-use Rattle.std.proofs.Common.{◌≡◌, ℕ, ◌<◌, ◌≤◌, ◌+◌, ◌*◌, ◌-◌, ◌^◌, List, [], ◌∷◌, ◌++◌, append_assoc, codes, get_or, length, map, refl, sym, ap, ◌∙◌, zero, suc, arith}
-use Rattle.std.specs.Prelude.{All, None, Option, Some}
+use Rattle.std.proofs.Common.{◌≡◌, ℕ, ◌<◌, ◌≤◌, ◌+◌, ◌*◌, ◌-◌, ◌/◌, ◌^◌, min, List, [], ◌∷◌, ◌++◌, append_assoc, codes, get_or, length, map, refl, sym, ap, ◌∙◌, zero, suc, arith}
+use Rattle.std.specs.Prelude.{All}
 use Rattle.std.specs.List.{flat_map, range_with_len, slice_index_or}
 use Rattle.std.proofs.lemmas.Grind.{flat_map-append}
 use Rattle.std.proofs.lemmas.List.{append_cancel_left}
@@ -8,22 +8,24 @@ use Rattle.coflow_units.specs.declared.fabric.Side.{Side}
 use Rattle.coflow_units.specs.declared.fabric.Side.TheVariants.{Ingress, Egress}
 use Rattle.picture.specs.declared.value.Bar.{Bar}
 use Rattle.picture.specs.declared.value.Picture.{Picture}
-use Rattle.picture.specs.Layout.{IsDrawable, IsInside, bars_height, height, slot_count}
-use Rattle.picture.specs.Palette.{colour_at, colour_if, fill_of}
-use Rattle.picture.specs.Svg.{axes_text, bar_text, bars_head, curve_text, head_text, id_of, legend_text, picture_text, rows_text, side_word, title_text}
-use Rattle.picture.specs.Text.{numbered}
+use Rattle.picture.specs.Layout.{IsDrawable, IsInside, bars_height, hairline, height, slot_count}
+use Rattle.picture.specs.Marks.{id_of, marks_text}
+use Rattle.picture.specs.Means.{means_text}
+use Rattle.picture.specs.Palette.{blue, colour_of, colour_text, green, red}
+use Rattle.picture.specs.Svg.{axes_text, bar_text, bars_head, curve_text, head_text, legend_text, picture_text, rows_text, side_word, title_text}
+use Rattle.picture.specs.Text.{numbered, three_digits}
 use Rattle.picture.specs.Title.{ratio_words}
-use Rattle.picture.specs.Told.{HasSmallNumbers, ToldBar, told_bars}
-use Rattle.picture.proofs.NumberText.{EndsNumber, equal_fronts, numbers_equal}
+use Rattle.picture.specs.Told.{HasSmallIds, ToldBar, told_bars}
+use Rattle.picture.proofs.NumberText.{EndsNumber, numbers_equal}
 
 -- ---- a bar
 
-seven : (a b c d e f g r : List ℕ) → a ++ b ++ c ++ d ++ e ++ f ++ g ++ r ≡ a ++ (b ++ (c ++ (d ++ (e ++ (f ++ (g ++ r))))))
-seven a b c d e f g r = simp append_assoc
+ten : (a b c d e f g h k l r : List ℕ) → a ++ b ++ c ++ d ++ (e ++ f ++ g ++ h) ++ k ++ l ++ r ≡ a ++ (b ++ (c ++ (d ++ (e ++ (f ++ (g ++ (h ++ (k ++ (l ++ r)))))))))
+ten a b c d e f g h k l r = simp append_assoc
 
-abbrev bar_line : ℕ → ℕ → ℕ → List ℕ → ℕ → List ℕ
-bar_line x y w fill id = numbered (codes "<rect x='") x ++ numbered (codes "' y='") y ++ numbered (codes "' width='") w ++ codes "' height='8' fill='" ++ fill ++
-    numbered (codes "'><title>coflow ") id ++ codes "</title></rect>\n"
+abbrev bar_line : ℕ → ℕ → ℕ → ℕ → ℕ → List ℕ
+bar_line x y w colour id = numbered (codes "<rect x='") x ++ numbered (codes "' y='") y ++ numbered (codes "' width='") w ++ codes "' height='8' fill='" ++
+    colour_text colour ++ numbered (codes "'><title>coflow ") id ++ codes "</title></rect>\n"
 
 pub record IsSmallBar (x y w id : ℕ) : Type 0 where
   pub x_small : x < 2 ^ 128
@@ -38,18 +40,31 @@ pub record IsSameBar (x y w id x' y' w' id' : ℕ) (r s : List ℕ) : Type 0 whe
   pub id_same : id ≡ id'
   pub rest_same : r ≡ s
 
-bars_equal : (x y w id x' y' w' id' : ℕ) (fill fill' r s : List ℕ) → IsSmallBar x y w id → IsSmallBar x' y' w' id' → length fill ≡ length fill' →
-    bar_line x y w fill id ++ r ≡ bar_line x' y' w' fill' id' ++ s → IsSameBar x y w id x' y' w' id' r s
-bars_equal x y w id x' y' w' id' fill fill' r s small small' long e =
-    let whole = sym (seven (numbered (codes "<rect x='") x) (numbered (codes "' y='") y) (numbered (codes "' width='") w) (codes "' height='8' fill='") fill
-    (numbered (codes "'><title>coflow ") id) (codes "</title></rect>\n") r) ∙ (e ∙
-    seven (numbered (codes "<rect x='") x') (numbered (codes "' y='") y') (numbered (codes "' width='") w') (codes "' height='8' fill='") fill'
-    (numbered (codes "'><title>coflow ") id') (codes "</title></rect>\n") s) in
+line_parts : (x y w colour id : ℕ) (r : List ℕ) → bar_line x y w colour id ++ r ≡ numbered (codes "<rect x='") x ++ (numbered (codes "' y='") y ++
+    (numbered (codes "' width='") w ++ (codes "' height='8' fill='" ++ (numbered (codes "rgb(") (red colour) ++ (numbered (codes ",") (green colour) ++
+    (numbered (codes ",") (blue colour) ++ (codes ")" ++ (numbered (codes "'><title>coflow ") id ++ (codes "</title></rect>\n" ++ r)))))))))
+line_parts x y w colour id r =
+    ten (numbered (codes "<rect x='") x) (numbered (codes "' y='") y) (numbered (codes "' width='") w) (codes "' height='8' fill='") (numbered (codes "rgb(") (red colour))
+    (numbered (codes ",") (green colour)) (numbered (codes ",") (blue colour)) (codes ")") (numbered (codes "'><title>coflow ") id) (codes "</title></rect>\n") r
+
+-- the text behind a colour
+behind_colour : (c d : ℕ) (x y : List ℕ) → numbered (codes "rgb(") (red c) ++ (numbered (codes ",") (green c) ++ (numbered (codes ",") (blue c) ++ (codes ")" ++ x))) ≡
+    numbered (codes "rgb(") (red d) ++ (numbered (codes ",") (green d) ++ (numbered (codes ",") (blue d) ++ (codes ")" ++ y))) → x ≡ y
+behind_colour c d x y e =
+    let a = numbers_equal (codes "rgb(") (red c) (red d) _ _ (omega arith) (omega arith) refl refl e in
+    let b = numbers_equal (codes ",") (green c) (green d) _ _ (omega arith) (omega arith) refl refl a.1 in
+    let f = numbers_equal (codes ",") (blue c) (blue d) _ _ (omega arith) (omega arith) refl refl b.1 in
+    append_cancel_left (codes ")") x y f.1
+
+bars_equal : (x y w id x' y' w' id' colour colour' : ℕ) (r s : List ℕ) → IsSmallBar x y w id → IsSmallBar x' y' w' id' →
+    bar_line x y w colour id ++ r ≡ bar_line x' y' w' colour' id' ++ s → IsSameBar x y w id x' y' w' id' r s
+bars_equal x y w id x' y' w' id' colour colour' r s small small' e =
+    let whole = sym (line_parts x y w colour id r) ∙ (e ∙ line_parts x' y' w' colour' id' s) in
     let a = numbers_equal (codes "<rect x='") x x' _ _ small.x_small small'.x_small refl refl whole in
     let b = numbers_equal (codes "' y='") y y' _ _ small.y_small small'.y_small refl refl a.1 in
     let c = numbers_equal (codes "' width='") w w' _ _ small.w_small small'.w_small refl refl b.1 in
-    let d = equal_fronts fill fill' _ _ long (append_cancel_left (codes "' height='8' fill='") _ _ c.1) in
-    let f = numbers_equal (codes "'><title>coflow ") id id' _ _ small.id_small small'.id_small refl refl d.1 in
+    let d = behind_colour colour colour' _ _ (append_cancel_left (codes "' height='8' fill='") _ _ c.1) in
+    let f = numbers_equal (codes "'><title>coflow ") id id' _ _ small.id_small small'.id_small refl refl d in
     record {
       x_same = a.0;
       y_same = b.0;
@@ -57,23 +72,6 @@ bars_equal x y w id x' y' w' id' fill fill' r s small small' long e =
       id_same = f.0;
       rest_same = append_cancel_left (codes "</title></rect>\n") r s f.1;
     }
-
--- ---- all colours have seven bytes
-
-colour_long : (k : ℕ) → length (colour_at k) ≡ 7
-colour_long zero = refl
-colour_long (suc zero) = refl
-colour_long (suc (suc zero)) = refl
-colour_long (suc (suc (suc zero))) = refl
-colour_long (suc (suc (suc (suc zero)))) = refl
-colour_long (suc (suc (suc (suc (suc zero))))) = refl
-colour_long (suc (suc (suc (suc (suc (suc zero)))))) = refl
-colour_long (suc (suc (suc (suc (suc (suc (suc zero))))))) = refl
-colour_long (suc (suc (suc (suc (suc (suc (suc (suc k)))))))) = refl
-
-if_long : (o : Option ℕ) → length (colour_if o) ≡ 7
-if_long None = refl
-if_long (Some k) = colour_long k
 
 -- ---- the bars of all ports in a row
 
@@ -163,14 +161,14 @@ id_fits (id ∷ ids) (suc k) all = id_fits ids k (λ j d lt. all (suc j) d (omeg
 
 -- ---- equal texts of them
 
-module _ (p q : Picture) (p_drawable : IsDrawable p) (q_drawable : IsDrawable q) (p_small : HasSmallNumbers p) (q_small : HasSmallNumbers q) where
+module _ (p q : Picture) (p_drawable : IsDrawable p) (q_drawable : IsDrawable q) (p_small : HasSmallIds p) (q_small : HasSmallIds q) where
   abbrev text_end : List ℕ
   text_end = codes "</svg>\n"
 
   other_end : (it : Item) (its : List Item) (o : Picture) (x y : List ℕ) → text_end ++ x ≡ flat_map (item_text o) (it ∷ its) ++ y → ⊥
   other_end it its o x y e = let bad : 47 ≡ 114 = ap (λ t. get_or t 1 0) e in absurd (omega (arith, bad))
 
-  small_item : (o : Picture) (it : Item) → IsDrawable o → HasSmallNumbers o → IsGood o it →
+  small_item : (o : Picture) (it : Item) → IsDrawable o → HasSmallIds o → IsGood o it →
       IsSmallBar (it.1.first - o.window.first) (10 * it.0 + 1) (it.1.last - (it.1.first - 1)) (id_of o it.1.coflow)
   small_item o it drawable small (lt, inside) = record {
     x_small = omega (arith, inside.some, inside.upto, drawable.short);
@@ -188,8 +186,8 @@ module _ (p q : Picture) (p_drawable : IsDrawable p) (q_drawable : IsDrawable q)
       let nested =
       sym (append_assoc (item_text p a) (flat_map (item_text p) xs) (text_end ++ x)) ∙ (e ∙ append_assoc (item_text q b) (flat_map (item_text q) ys) (text_end ++ y)) in
       let same =
-      bars_equal _ _ _ _ _ _ _ _ (fill_of p.heavy a.1.coflow) (fill_of q.heavy b.1.coflow) _ _ (small_item p a p_drawable p_small ga) (small_item q b q_drawable q_small gb)
-      (if_long _ ∙ sym (if_long _)) nested in
+      bars_equal _ _ _ _ _ _ _ _ (colour_of p a.1.coflow) (colour_of q b.1.coflow) _ _ (small_item p a p_drawable p_small ga) (small_item q b q_drawable q_small gb)
+      nested in
       let port : a.0 ≡ b.0 = omega (arith, same.y_same) in
       let id : id_of p a.1.coflow ≡ id_of q b.1.coflow = same.id_same in
       let from : a.1.first ≡ b.1.first = omega (arith, same.x_same, first, ga.1.from, gb.1.from) in
@@ -226,8 +224,8 @@ ratio_ends : (c b : ℕ) (x : List ℕ) → EndsNumber (ratio_words c b ++ (code
 ratio_ends c zero x = refl
 ratio_ends c (suc b) x = refl
 
-title_equal : (p q : Picture) (x y : List ℕ) → IsDrawable p → IsDrawable q → HasSmallNumbers p → HasSmallNumbers q → title_text p ++ x ≡ title_text q ++ y → x ≡ y
-title_equal p q x y pd qd ps qs e =
+title_equal : (p q : Picture) (x y : List ℕ) → IsDrawable p → IsDrawable q → title_text p ++ x ≡ title_text q ++ y → x ≡ y
+title_equal p q x y pd qd e =
     let lead = codes "<text x='70' y='24' font-size='16'>" in
     let cost = codes "cost " in
     let bound = codes ", bound " in
@@ -236,13 +234,15 @@ title_equal p q x y pd qd ps qs e =
     sym (five lead (numbered cost p.cost) (numbered bound p.bound) (ratio_words p.cost p.bound) behind x) ∙ (e ∙
     five lead (numbered cost q.cost) (numbered bound q.bound) (ratio_words q.cost q.bound) behind y) in
     let a = numbers_equal cost p.cost q.cost _ _ (omega (arith, pd.small_cost)) (omega (arith, qd.small_cost)) refl refl (append_cancel_left lead _ _ whole) in
-    let b = numbers_equal bound p.bound q.bound _ _ ps.bound qs.bound (ratio_ends p.cost p.bound x) (ratio_ends q.cost q.bound y) a.1 in
+    let p_small : p.bound < 2 ^ 128 = omega (arith, pd.small_bound) in
+    let q_small : q.bound < 2 ^ 128 = omega (arith, qd.small_bound) in
+    let b = numbers_equal bound p.bound q.bound _ _ p_small q_small (ratio_ends p.cost p.bound x) (ratio_ends q.cost q.bound y) a.1 in
     let same : ratio_words q.cost q.bound ≡ ratio_words p.cost p.bound = λ i. ratio_words (sym a.0 i) (sym b.0 i) in
     let rest = append_cancel_left (ratio_words p.cost p.bound) _ _ (b.1 ∙ ap (λ t. t ++ (behind ++ y)) same) in
     append_cancel_left behind x y rest
 
-eight : (a b c d e f g h r : List ℕ) → a ++ b ++ c ++ d ++ e ++ f ++ g ++ h ++ r ≡ a ++ (b ++ (c ++ (d ++ (e ++ (f ++ (g ++ (h ++ r)))))))
-eight a b c d e f g h r = simp append_assoc
+head_ten : (a b c d e f g h k l r : List ℕ) → a ++ b ++ c ++ d ++ e ++ f ++ g ++ h ++ k ++ l ++ r ≡ a ++ (b ++ (c ++ (d ++ (e ++ (f ++ (g ++ (h ++ (k ++ (l ++ r)))))))))
+head_ten a b c d e f g h k l r = simp append_assoc
 
 side_equal : (s t : Side) (x y : List ℕ) → side_word s ++ x ≡ side_word t ++ y → x ≡ y
 side_equal Ingress Ingress x y e = append_cancel_left (codes "ingress") x y e
@@ -252,38 +252,44 @@ side_equal Egress Ingress x y e = let bad : 101 ≡ 105 = ap (λ t. get_or t 0 0
 
 bars_head_equal : (p q : Picture) (x y : List ℕ) → IsDrawable p → IsDrawable q → bars_head p ++ x ≡ bars_head q ++ y → (p.window.first ≡ q.window.first) × (x ≡ y)
 bars_head_equal p q x y pd qd e =
-    let lead = codes "<text x='70' y='50'>" in
+    let lead = codes "<text x='70' y='70'>" in
     let slots = codes " ports, slots " in
     let to = codes " to " in
-    let top = codes "</text>\n<svg x='70' y='60' width='720' height='" in
+    let top = codes "</text>\n<svg x='70' y='80' width='720' height='" in
     let box = codes "' viewBox='0 0 " in
     let space = codes " " in
-    let behind = codes "' preserveAspectRatio='none'>\n" in
+    let stroke = codes "' preserveAspectRatio='none' stroke='#ffffff' stroke-width='" in
+    let behind = codes "'>\n" in
     let whole =
-    sym (eight lead (side_word p.window.side) (numbered slots p.window.first) (numbered to p.window.last) (numbered top (bars_height p)) (numbered box (slot_count p))
-    (numbered space (10 * length p.rows)) behind x) ∙ (e ∙
-    eight lead (side_word q.window.side) (numbered slots q.window.first) (numbered to q.window.last) (numbered top (bars_height q)) (numbered box (slot_count q))
-    (numbered space (10 * length q.rows)) behind y) in
+    sym (head_ten lead (side_word p.window.side) (numbered slots p.window.first) (numbered to p.window.last) (numbered top (bars_height p)) (numbered box (slot_count p))
+    (numbered space (10 * length p.rows)) stroke (three_digits (hairline p)) behind x) ∙ (e ∙
+    head_ten lead (side_word q.window.side) (numbered slots q.window.first) (numbered to q.window.last) (numbered top (bars_height q)) (numbered box (slot_count q))
+    (numbered space (10 * length q.rows)) stroke (three_digits (hairline q)) behind y) in
     let a = side_equal p.window.side q.window.side _ _ (append_cancel_left lead _ _ whole) in
     let b = numbers_equal slots p.window.first q.window.first _ _ (omega (arith, pd.some, pd.short)) (omega (arith, qd.some, qd.short)) refl refl a in
     let c = numbers_equal to p.window.last q.window.last _ _ (omega (arith, pd.short)) (omega (arith, qd.short)) refl refl b.1 in
     let d = numbers_equal top (bars_height p) (bars_height q) _ _ (omega (arith, pd.few_ports)) (omega (arith, qd.few_ports)) refl refl c.1 in
     let f = numbers_equal box (slot_count p) (slot_count q) _ _ (omega (arith, pd.short)) (omega (arith, qd.short)) refl refl d.1 in
     let g = numbers_equal space (10 * length p.rows) (10 * length q.rows) _ _ (omega (arith, pd.few_ports)) (omega (arith, qd.few_ports)) refl refl f.1 in
-    (b.0, append_cancel_left behind x y g.1)
+    let line : three_digits (hairline q) ≡ three_digits (hairline p) = ap (λ n. three_digits (min (n * 25 / 18) 400)) (sym f.0) in
+    let past = append_cancel_left stroke _ _ g.1 in
+    let rest = append_cancel_left (three_digits (hairline p)) _ _ (past ∙ ap (λ t. t ++ (behind ++ y)) line) in
+    (b.0, append_cancel_left behind x y rest)
 
 -- ---- the whole text
 
-parts : (h t b r e c a l z : List ℕ) → h ++ t ++ (b ++ r ++ e) ++ c ++ a ++ l ++ z ≡ h ++ (t ++ (b ++ (r ++ (e ++ (c ++ (a ++ (l ++ z)))))))
-parts h t b r e c a l z = simp append_assoc
-
-in_parts : (p : Picture) →
-    picture_text p ≡ head_text p ++ (title_text p ++ (bars_head p ++ (rows_text p ++ (codes "</svg>\n" ++ (curve_text p ++ (axes_text p ++ (legend_text p ++ codes "</svg>\n")))))))
-in_parts p = parts (head_text p) (title_text p) (bars_head p) (rows_text p) (codes "</svg>\n") (curve_text p) (axes_text p) (legend_text p) (codes "</svg>\n")
+parts : (h t b r e m c n a l z : List ℕ) →
+    h ++ t ++ (b ++ r ++ e) ++ m ++ c ++ n ++ a ++ l ++ z ≡ h ++ (t ++ (b ++ (r ++ (e ++ (m ++ (c ++ (n ++ (a ++ (l ++ z)))))))))
+parts h t b r e m c n a l z = simp append_assoc
 
 -- what stands behind the bars
 abbrev behind_bars : Picture → List ℕ
-behind_bars p = curve_text p ++ (axes_text p ++ (legend_text p ++ codes "</svg>\n"))
+behind_bars p = marks_text p ++ (curve_text p ++ (means_text p ++ (axes_text p ++ (legend_text p ++ codes "</svg>\n"))))
+
+in_parts : (p : Picture) → picture_text p ≡ head_text p ++ (title_text p ++ (bars_head p ++ (rows_text p ++ (codes "</svg>\n" ++ behind_bars p))))
+in_parts p =
+    parts (head_text p) (title_text p) (bars_head p) (rows_text p) (codes "</svg>\n") (marks_text p) (curve_text p) (means_text p) (axes_text p) (legend_text p)
+    (codes "</svg>\n")
 
 abbrev all_items : Picture → List Item
 all_items p = items_from (λ port. slice_index_or p.rows port []) 0 (length p.rows)
@@ -291,10 +297,10 @@ all_items p = items_from (λ port. slice_index_or p.rows port []) 0 (length p.ro
 all_good : (p : Picture) → IsDrawable p → AreGood p (all_items p)
 all_good p d = rows_good p (λ port. slice_index_or p.rows port []) 0 (length p.rows) (omega (arith, d.few_ports)) (λ port le lt. d.inside port (omega (arith, lt)))
 
-pub one_list_of_bars : (p q : Picture) → IsDrawable p → IsDrawable q → HasSmallNumbers p → HasSmallNumbers q → picture_text p ≡ picture_text q → told_bars p ≡ told_bars q
+pub one_list_of_bars : (p q : Picture) → IsDrawable p → IsDrawable q → HasSmallIds p → HasSmallIds q → picture_text p ≡ picture_text q → told_bars p ≡ told_bars q
 one_list_of_bars p q pd qd ps qs e =
     let past_head = head_equal p q _ _ pd qd (sym (in_parts p) ∙ (e ∙ in_parts q)) in
-    let past_title = title_equal p q _ _ pd qd ps qs past_head in
+    let past_title = title_equal p q _ _ pd qd past_head in
     let (first, rows) = bars_head_equal p q _ _ pd qd past_title in
     let end = codes "</svg>\n" in
     let p_items = rows_items p (λ port. slice_index_or p.rows port []) 0 (length p.rows) in

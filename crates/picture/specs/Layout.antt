@@ -1,11 +1,10 @@
 -- Where the parts of a picture lie. All coordinates are whole numbers.
-use Rattle.std.specs.Prelude.{ℕ, ◌+◌, ◌*◌, ◌-◌, ◌/◌, ◌<◌, ◌≤◌, ◌^◌, [], All, length, min}
+use Rattle.std.specs.Prelude.{ℕ, ◌+◌, ◌*◌, ◌-◌, ◌/◌, ◌<◌, ◌≤◌, ◌^◌, [], All, length, min, sum}
 use Rattle.std.specs.List.{slice_index_or}
 use Rattle.coflow_units.specs.declared.limits.TheConstants.{MAX_PORTS, MAX_SLOT}
 use Rattle.picture.specs.declared.value.Bar.{Bar}
 use Rattle.picture.specs.declared.value.Window.{Window}
 use Rattle.picture.specs.declared.value.Picture.{Picture}
-use Rattle.picture.specs.declared.value.TheConstants.{LEGEND}
 
 -- the bar has a slot, and its slots are slots of the window
 pub record IsInside (w : Window) (b : Bar) : Type 0 where
@@ -14,8 +13,8 @@ pub record IsInside (w : Window) (b : Bar) : Type 0 where
   pub upto : b.last ≤ w.last
 
 -- The window has a slot, and its last slot is one that a schedule may have. There is a port, and no more of them than a
--- side may have. The bars lie inside the window. The legend is no longer than it may be, and a hundred times the cost is
--- a number of 128 bits.
+-- side may have. The bars lie inside the window. The weights add up to a number of 64 bits, and a hundred times the
+-- cost or the bound is a number of 128 bits.
 pub record IsDrawable (p : Picture) : Type 0 where
   pub counted : 1 ≤ p.window.first
   pub some : p.window.first ≤ p.window.last
@@ -23,8 +22,9 @@ pub record IsDrawable (p : Picture) : Type 0 where
   pub has_ports : 1 ≤ length p.rows
   pub few_ports : length p.rows ≤ MAX_PORTS + 1
   pub inside : (port : ℕ) → port < length p.rows → All (IsInside p.window) (slice_index_or p.rows port [])
-  pub few_coflows : length p.heavy ≤ LEGEND
+  pub small_weights : sum p.weights < 2 ^ 64
   pub small_cost : p.cost ≤ 2 ^ 120
+  pub small_bound : p.bound ≤ 2 ^ 120
 
 -- how many slots the window has
 abbrev pub slot_count : Picture → ℕ
@@ -36,7 +36,7 @@ bars_height p = min (16 * length p.rows) 480
 
 -- where the bars end
 abbrev pub bars_end : Picture → ℕ
-bars_end p = 60 + bars_height p
+bars_end p = 80 + bars_height p
 
 -- where the curve begins, which is 120 high
 abbrev pub curve_top : Picture → ℕ
@@ -60,4 +60,24 @@ slot_x p slot = 70 + middle (slot - p.window.first) (slot_count p) 720
 
 -- where the middle of a port's row lies, from above
 abbrev pub port_y : Picture → ℕ → ℕ
-port_y p port = 60 + middle port (length p.rows) (bars_height p)
+port_y p port = 80 + middle port (length p.rows) (bars_height p)
+
+-- how high the row of a port is
+abbrev pub row_height : Picture → ℕ
+row_height p = bars_height p / length p.rows
+
+-- where the edge behind so many slots of the window lies, from left
+abbrev pub edge_x : Picture → ℕ → ℕ
+edge_x p slots = 70 + slots * 720 / slot_count p
+
+-- how wide a bar is
+abbrev pub bar_width : Picture → Bar → ℕ
+bar_width p b = (b.last - (b.first - 1)) * 720 / slot_count p
+
+-- where the middle of a bar lies, from left
+abbrev pub bar_x : Picture → Bar → ℕ
+bar_x p b = 70 + ((b.first - p.window.first) + (b.last - (p.window.first - 1))) * 360 / slot_count p
+
+-- the white line around a bar, in thousandths of a slot: it is a pixel wide, or two fifths of a slot where that is less
+abbrev pub hairline : Picture → ℕ
+hairline p = min (slot_count p * 25 / 18) 400

@@ -1,8 +1,10 @@
 pub mod Bars
 pub mod Curve
 pub mod Drawing
-pub mod Heaviest
 pub mod Layout
+pub mod Marks
+pub mod Means
+pub mod Order
 pub mod Palette
 pub mod Svg
 pub mod Text

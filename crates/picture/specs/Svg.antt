@@ -1,24 +1,19 @@
 -- The text of a picture: SVG 1.1, element by element.
-use Rattle.std.specs.Prelude.{ℕ, ◌+◌, ◌*◌, ◌-◌, ◌/◌, ◌++◌, leb, List, [], if◌then◌else◌, codes, length}
+use Rattle.std.specs.Prelude.{ℕ, ◌+◌, ◌*◌, ◌-◌, ◌/◌, ◌++◌, List, [], if◌then◌else◌, codes, length, max, min}
 use Rattle.std.specs.List.{flat_map, range_with_len, slice_index_or}
 use Rattle.coflow_units.specs.declared.fabric.Side.{Side}
 use Rattle.coflow_units.specs.declared.fabric.Side.TheVariants.{Ingress, Egress}
 use Rattle.picture.specs.declared.value.Bar.{Bar}
 use Rattle.picture.specs.declared.value.Step.{Step}
 use Rattle.picture.specs.declared.value.Picture.{Picture}
-use Rattle.picture.specs.Layout.{bars_end, bars_height, curve_end, curve_top, height, port_y, slot_count, slot_x}
-use Rattle.picture.specs.Palette.{colour_at, fill_of}
-use Rattle.picture.specs.Text.{numbered}
+use Rattle.picture.specs.Layout.{bars_end, bars_height, curve_end, curve_top, hairline, height, port_y, slot_count}
+use Rattle.picture.specs.Layout.{slot_x}
+use Rattle.picture.specs.Marks.{circle_text, has_marks, id_of, marks_text}
+use Rattle.picture.specs.Means.{means_text}
+use Rattle.picture.specs.Palette.{colour_at, colour_of, colour_text}
+use Rattle.picture.specs.Text.{numbered, three_digits}
 use Rattle.picture.specs.Ticks.{multiples, step_of}
 use Rattle.picture.specs.Title.{title_words}
-
--- the number of a coflow as an id; a coflow past the ids has 0
-abbrev pub id_of : Picture → ℕ → ℕ
-id_of p coflow = slice_index_or p.ids coflow 0
-
--- the weight of a coflow; a coflow past the weights has 0
-abbrev pub weight_of : Picture → ℕ → ℕ
-weight_of p coflow = slice_index_or p.weights coflow 0
 
 -- the beginning, with a white ground
 abbrev pub head_text : Picture → List ℕ
@@ -38,20 +33,20 @@ abbrev pub side_word : Side → List ℕ
 side_word Ingress = codes "ingress"
 side_word Egress = codes "egress"
 
--- what the bars show, and their beginning: a slot is 1 wide, and a port is 10 high
+-- what the bars show, and their beginning: a slot is 1 wide, a port is 10 high, and a white line parts the bars
 abbrev pub bars_head : Picture → List ℕ
-bars_head p = codes "<text x='70' y='50'>" ++ side_word p.window.side ++
+bars_head p = codes "<text x='70' y='70'>" ++ side_word p.window.side ++
     numbered (codes " ports, slots ") p.window.first ++ numbered (codes " to ") p.window.last ++
-    numbered (codes "</text>\n<svg x='70' y='60' width='720' height='") (bars_height p) ++
+    numbered (codes "</text>\n<svg x='70' y='80' width='720' height='") (bars_height p) ++
     numbered (codes "' viewBox='0 0 ") (slot_count p) ++ numbered (codes " ") (10 * length p.rows) ++
-    codes "' preserveAspectRatio='none'>\n"
+    codes "' preserveAspectRatio='none' stroke='#ffffff' stroke-width='" ++ three_digits (hairline p) ++ codes "'>\n"
 
 -- A bar. It begins as many slots behind the window's first slot as x says, in the row of its port, and its coflow is told
--- by its id.
+-- by its colour and its id.
 abbrev pub bar_text : Picture → ℕ → Bar → List ℕ
 bar_text p port b = numbered (codes "<rect x='") (b.first - p.window.first) ++
     numbered (codes "' y='") (10 * port + 1) ++ numbered (codes "' width='") (b.last - (b.first - 1)) ++
-    codes "' height='8' fill='" ++ fill_of p.heavy b.coflow ++
+    codes "' height='8' fill='" ++ colour_text (colour_of p b.coflow) ++
     numbered (codes "'><title>coflow ") (id_of p b.coflow) ++ codes "</title></rect>\n"
 
 -- the bars of a port
@@ -83,7 +78,7 @@ step_text p s = numbered (codes "H") (s.slot - (p.window.first - 1)) ++ numbered
 -- the curve as an area
 abbrev pub curve_text : Picture → List ℕ
 curve_text p = curve_head p ++ flat_map (step_text p) p.steps ++ numbered (codes "H") (slot_count p) ++
-    numbered (codes "V") (length p.ids) ++ codes "Z' fill='#777777'/>\n</svg>\n"
+    numbered (codes "V") (length p.ids) ++ codes "Z' fill='#bbbbbb'/>\n</svg>\n"
 
 -- ---- the axes
 
@@ -132,34 +127,41 @@ done_axis p = height_label (curve_top p) (length p.ids) ++ height_label (curve_e
 
 -- frames and axes
 abbrev pub axes_text : Picture → List ℕ
-axes_text p = frame_text 60 (bars_height p) ++ slot_axis p (bars_end p) ++ port_axis p ++
+axes_text p = frame_text 80 (bars_height p) ++ slot_axis p (bars_end p) ++ port_axis p ++
     frame_text (curve_top p) 120 ++ slot_axis p (curve_end p) ++ done_axis p
 
 -- ---- the legend
 
--- the square of a colour at a place of the legend, and the beginning of its words
-abbrev pub entry_head : ℕ → List ℕ → List ℕ
-entry_head place colour = numbered (codes "<rect x='850' y='") (20 * place + 60) ++
-    codes "' width='12' height='12' fill='" ++ colour ++
-    numbered (codes "'/><text x='868' y='") (20 * place + 71) ++ codes "'>"
+-- how many colours the legend shows: one for each place, where there are enough of them
+abbrev pub swatches : Picture → ℕ
+swatches p = min (max (length p.ids) 1) 32
 
--- the entry of a coflow
-abbrev pub entry_text : Picture → ℕ → List ℕ
-entry_text p place = entry_head place (colour_at place) ++
-    numbered (codes "coflow ") (id_of p (slice_index_or p.heavy place 0)) ++
-    numbered (codes ", weight ") (weight_of p (slice_index_or p.heavy place 0)) ++ codes "</text>\n"
+-- how wide each of them is
+abbrev pub swatch_width : Picture → ℕ
+swatch_width p = 256 / swatches p
 
--- the entry of the others, where there are any
-abbrev pub others_text : Picture → List ℕ
-others_text p = if leb (length p.ids) (length p.heavy) then []
-    else entry_head (length p.heavy) (codes "#bbbbbb") ++ codes "other coflows</text>\n"
+-- the square of a colour
+abbrev pub swatch_text : Picture → ℕ → List ℕ
+swatch_text p k = numbered (codes "<rect x='") (850 + swatch_width p * k) ++
+    numbered (codes "' y='80' width='") (swatch_width p) ++ codes "' height='12' fill='" ++
+    colour_text (colour_at (k + 1) (swatches p)) ++ codes "'/>\n"
+
+-- the first and the last place, below their colours
+abbrev pub places_text : Picture → List ℕ
+places_text p = numbered (codes "<text x='850' y='108'>1</text>\n<text x='") (850 + swatch_width p * swatches p) ++
+    numbered (codes "' y='108' text-anchor='end'>") (length p.ids) ++ codes "</text>\n"
+
+-- what a mark says, where there are marks
+abbrev pub mark_entry : Picture → List ℕ
+mark_entry p = if has_marks p then circle_text 856 128 ++ codes "<text x='868' y='132'>completes its coflow</text>\n"
+    else []
 
 -- the legend
 abbrev pub legend_text : Picture → List ℕ
-legend_text p = codes "<text x='850' y='50'>most weight</text>\n" ++
-    flat_map (entry_text p) (range_with_len 0 (length p.heavy)) ++ others_text p
+legend_text p = codes "<text x='850' y='70'>place in the order</text>\n" ++
+    flat_map (swatch_text p) (range_with_len 0 (swatches p)) ++ places_text p ++ mark_entry p
 
 -- the text of a picture
 abbrev pub picture_text : Picture → List ℕ
-picture_text p = head_text p ++ title_text p ++ bars_text p ++ curve_text p ++ axes_text p ++ legend_text p ++
-    codes "</svg>\n"
+picture_text p = head_text p ++ title_text p ++ bars_text p ++ marks_text p ++ curve_text p ++ means_text p ++
+    axes_text p ++ legend_text p ++ codes "</svg>\n"

@@ -1,15 +1,11 @@
 -- The title: how far from the best the schedule is at most.
-use Rattle.std.specs.Prelude.{ℕ, ◌*◌, ◌/◌, ◌%◌, ◌++◌, suc, zero, List, [], codes, decimal}
+use Rattle.std.specs.Prelude.{ℕ, ◌*◌, ◌++◌, suc, zero, List, [], codes}
 use Rattle.std.specs.Int.{div_ceil}
-use Rattle.picture.specs.Text.{numbered}
+use Rattle.picture.specs.Text.{numbered, two_digits}
 
 -- the hundredths of cost by bound, rounded up
 abbrev pub hundredths : ℕ → ℕ → ℕ
 hundredths cost bound = div_ceil (100 * cost) bound
-
--- a number of hundredths, with two digits behind the point
-abbrev pub two_digits : ℕ → List ℕ
-two_digits h = decimal (h / 100) ++ numbered (codes ".") (h / 10 % 10) ++ decimal (h % 10)
 
 -- how many times the least cost the schedule costs at most; nothing where the bound is 0, which says nothing of it
 abbrev pub ratio_words : ℕ → ℕ → List ℕ

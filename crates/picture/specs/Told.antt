@@ -3,7 +3,7 @@ use Rattle.std.specs.Prelude.{ℕ, ◌<◌, ◌^◌, List, [], All, length, map}
 use Rattle.std.specs.List.{flat_map, range_with_len, slice_index_or}
 use Rattle.picture.specs.declared.value.Bar.{Bar}
 use Rattle.picture.specs.declared.value.Picture.{Picture}
-use Rattle.picture.specs.Svg.{id_of}
+use Rattle.picture.specs.Marks.{id_of}
 
 -- a bar as a text tells it: with its port, and its coflow by id
 pub record ToldBar : Type 0 where
@@ -22,7 +22,6 @@ told_row p port =
 abbrev pub told_bars : Picture → List ToldBar
 told_bars p = flat_map (told_row p) (range_with_len 0 (length p.rows))
 
--- the ids are numbers of 32 bits, and the bound is one of 128 bits
-pub record HasSmallNumbers (p : Picture) : Type 0 where
+-- the ids are numbers of 32 bits
+pub record HasSmallIds (p : Picture) : Type 0 where
   pub ids : All (λ id. id < 2 ^ 32) p.ids
-  pub bound : p.bound < 2 ^ 128

@@ -14,7 +14,7 @@ pub fn push_axes(text: &mut Vec<u8>, picture: &Picture) -> Result<(), NoMemory>
     requires { IsDrawable picture.now }
     ensures { OnOk result (text.new.items ≡ text.old.items ++ axes_text picture.now) }
 {
-    push_frame(text, 60, bars_height(picture))?;
+    push_frame(text, 80, bars_height(picture))?;
     push_slot_axis(text, picture, bars_end(picture))?;
     push_port_axis(text, picture)?;
     push_frame(text, curve_top(picture), 120)?;
@@ -36,7 +36,7 @@ fn push_frame(text: &mut Vec<u8>, top: u64, size: u64) -> Result<(), NoMemory>
 /// The axis of slots below where bars or curve end.
 fn push_slot_axis(text: &mut Vec<u8>, picture: &Picture, end: u64) -> Result<(), NoMemory>
     requires drawable { IsDrawable picture.now }
-    requires end { end ≤ 740 }
+    requires end { end ≤ 760 }
     ensures { OnOk result (text.new.items ≡ text.old.items ++ slot_axis picture.now end) }
 {
     push_slot_ticks(text, picture, end, step_of(slot_count(picture)))?;
@@ -53,7 +53,7 @@ fn push_slot_ticks(
     step: u64,
 ) -> Result<(), NoMemory>
     requires drawable { IsDrawable picture.now }
-    requires end { end ≤ 740 }
+    requires end { end ≤ 760 }
     requires step { 1 ≤ step }
     ensures { OnOk result (text.new.items ≡ text.old.items ++ slot_ticks picture.now end step) }
 {
@@ -72,7 +72,7 @@ fn push_slot_tick(
     slot: u64,
 ) -> Result<(), NoMemory>
     requires drawable { IsDrawable picture.now }
-    requires end { end ≤ 740 }
+    requires end { end ≤ 760 }
     requires from { picture.now.window.first ≤ slot }
     requires upto { slot ≤ picture.now.window.last }
     ensures { OnOk result (text.new.items ≡ text.old.items ++ slot_tick picture.now end slot) }
@@ -125,7 +125,7 @@ fn push_port_tick(text: &mut Vec<u8>, picture: &Picture, port: u64) -> Result<()
 
 /// A number beside what is at this height.
 fn push_height_label(text: &mut Vec<u8>, y: u64, number: u64) -> Result<(), NoMemory>
-    requires { y ≤ 740 }
+    requires { y ≤ 760 }
     ensures { OnOk result (text.new.items ≡ text.old.items ++ height_label y number) }
 {
     push_number(text, b"<text x='62' y='", y + 4)?;

@@ -2,11 +2,12 @@
 ghost use Rattle.std.specs.Prelude.{◌≡◌, ◌<◌, ◌≤◌, ◌+◌, ◌++◌, OnOk, length};
 ghost use Rattle.coflow_units.specs.declared.limits.TheConstants.{MAX_PORTS};
 ghost use Rattle.picture.specs.Layout.{IsDrawable};
-ghost use Rattle.picture.specs.Svg.{bar_text, bars_head, bars_text, id_of, row_text, rows_text, side_word};
+ghost use Rattle.picture.specs.Svg.{bar_text, bars_head, bars_text, row_text, rows_text, side_word};
 
-use crate::layout::{bars_height, slot_count};
-use crate::number::push_number;
-use crate::palette::fill_of;
+use crate::layout::{bars_height, hairline, slot_count};
+use crate::marks::id_of;
+use crate::number::{push_number, push_three_digits};
+use crate::palette::{colour_of, push_colour};
 use crate::value::{Bar, Picture};
 use coflow_units::{NoMemory, Side};
 
@@ -27,18 +28,20 @@ fn push_head(text: &mut Vec<u8>, picture: &Picture) -> Result<(), NoMemory>
     ensures { OnOk result (text.new.items ≡ text.old.items ++ bars_head picture.now) }
 {
     let window = picture.window;
-    text.extend_from_slice(b"<text x='70' y='50'>")?;
+    text.extend_from_slice(b"<text x='70' y='70'>")?;
     text.extend_from_slice(side_word(window.side))?;
     push_number(text, b" ports, slots ", window.first)?;
     push_number(text, b" to ", window.last)?;
     push_number(
         text,
-        b"</text>\n<svg x='70' y='60' width='720' height='",
+        b"</text>\n<svg x='70' y='80' width='720' height='",
         bars_height(picture),
     )?;
     push_number(text, b"' viewBox='0 0 ", slot_count(picture))?;
     push_number(text, b" ", 10 * picture.rows.as_slice().len() as u64)?;
-    text.extend_from_slice(b"' preserveAspectRatio='none'>\n")?;
+    text.extend_from_slice(b"' preserveAspectRatio='none' stroke='#ffffff' stroke-width='")?;
+    push_three_digits(text, hairline(picture))?;
+    text.extend_from_slice(b"'>\n")?;
     Ok(())
 }
 
@@ -87,7 +90,7 @@ fn push_bar(text: &mut Vec<u8>, picture: &Picture, port: u64, bar: Bar) -> Resul
     push_number(text, b"' y='", 10 * port + 1)?;
     push_number(text, b"' width='", length)?;
     text.extend_from_slice(b"' height='8' fill='")?;
-    text.extend_from_slice(fill_of(picture.heavy.as_slice(), bar.coflow))?;
+    push_colour(text, colour_of(picture, bar.coflow))?;
     push_number(
         text,
         b"'><title>coflow ",
@@ -95,14 +98,4 @@ fn push_bar(text: &mut Vec<u8>, picture: &Picture, port: u64, bar: Bar) -> Resul
     )?;
     text.extend_from_slice(b"</title></rect>\n")?;
     Ok(())
-}
-
-/// The id of a coflow, or 0 for one past the ids.
-pub(crate) fn id_of(picture: &Picture, coflow: u32) -> u32
-    ensures { result ≡ id_of picture.now coflow }
-{
-    match picture.ids.as_slice().get(coflow as usize) {
-        Some(id) => *id,
-        None => 0,
-    }
 }

@@ -18,7 +18,7 @@ pub(crate) fn push_curve(text: &mut Vec<u8>, picture: &Picture) -> Result<(), No
     push_steps(text, picture)?;
     push_number(text, b"H", slot_count(picture))?;
     push_number(text, b"V", picture.ids.as_slice().len() as u64)?;
-    text.extend_from_slice(b"Z' fill='#777777'/>\n</svg>\n")?;
+    text.extend_from_slice(b"Z' fill='#bbbbbb'/>\n</svg>\n")?;
     Ok(())
 }
 

@@ -1,17 +1,20 @@
-//! Laws of bars and curves, and of the text of a picture.
+//! Laws of bars and curves, of colours and means, and of the text of a picture.
 ghost use Rattle.coflow_units.specs.declared.fabric.Flow.{Flow};
 ghost use Rattle.picture.specs.Bars.{IsBars};
 ghost use Rattle.picture.specs.Curve.{IsCurve};
 ghost use Rattle.picture.specs.Layout.{IsDrawable};
+ghost use Rattle.picture.specs.Means.{tenths_down, tenths_up};
+ghost use Rattle.picture.specs.Palette.{ink_on, level, luminance};
 ghost use Rattle.picture.specs.Svg.{picture_text};
 ghost use Rattle.picture.specs.Title.{hundredths};
-ghost use Rattle.picture.specs.Told.{HasSmallNumbers, told_bars};
+ghost use Rattle.picture.specs.Told.{HasSmallIds, told_bars};
+ghost use Rattle.picture.specs.declared.palette.TheConstants.{COLOURS};
 ghost use Rattle.picture.specs.declared.value.Picture.{Picture};
 ghost use Rattle.picture.specs.declared.value.Bar.{Bar};
 ghost use Rattle.picture.specs.declared.value.Step.{Step};
 ghost use Rattle.picture.specs.declared.value.Window.{Window};
 ghost use Rattle.std.specs.List.{slice_index_or};
-ghost use Rattle.std.specs.Prelude.{◌≡◌, ◌≢◌, ℕ, ◌+◌, ◌<◌, List, [], length, ◌*◌, ◌≤◌};
+ghost use Rattle.std.specs.Prelude.{◌≡◌, ◌≢◌, ◌⊎◌, ℕ, ◌+◌, ◌<◌, AllPairs, List, [], length, ◌*◌, ◌≤◌};
 
 /// A schedule has one list of bars in a window.
 pub fn bars_are_one()
@@ -41,8 +44,31 @@ pub fn ratio_is_cut_upwards()
     ensures least { (cost bound : ℕ) → 1 ≤ bound → hundredths cost bound * bound < 100 * cost + bound }
 {}
 
+/// The tenths of the means: those of the schedule are the least ones that are not below its mean, and those of the
+/// bound are the greatest ones that are not above its mean.
+pub fn means_are_cut()
+    ensures enough { (cost weight : ℕ) → 1 ≤ weight → 10 * cost ≤ tenths_up cost weight * weight }
+    ensures least { (cost weight : ℕ) → 1 ≤ weight → tenths_up cost weight * weight < 10 * cost + weight }
+    ensures within { (bound weight : ℕ) → 1 ≤ weight → tenths_down bound weight * weight ≤ 10 * bound }
+    ensures most { (bound weight : ℕ) → 1 ≤ weight → 10 * bound < tenths_down bound weight * weight + weight }
+{}
+
+/// Grey print keeps the order of places: each colour is lighter than the one before, a later place has no earlier
+/// colour, and each place has one of the colours.
+pub fn grey_keeps_the_order()
+    ensures lighter { AllPairs (λ a b. luminance a < luminance b) COLOURS }
+    ensures monotone { (a b places : ℕ) → a ≤ b → level a places ≤ level b places }
+    ensures inside { (place places : ℕ) → 1 ≤ place → place ≤ places → level place places < length COLOURS }
+{}
+
+/// Words differ in luminance from the colour below them by almost half of what there is.
+pub fn words_can_be_read()
+    ensures { (colour : ℕ) → (luminance colour + 1200000 ≤ luminance (ink_on colour)) ⊎
+        (luminance (ink_on colour) + 1200000 ≤ luminance colour) }
+{}
+
 /// A text tells one list of bars: two pictures with the same text have the same bars at the same ports, with coflows of the same ids.
 pub fn text_has_one_list_of_bars()
-    ensures { (p q : Picture) → IsDrawable p → IsDrawable q → HasSmallNumbers p → HasSmallNumbers q →
+    ensures { (p q : Picture) → IsDrawable p → IsDrawable q → HasSmallIds p → HasSmallIds q →
         picture_text p ≡ picture_text q → told_bars p ≡ told_bars q }
 {}

@@ -1,9 +1,9 @@
 //! Where the parts of a picture lie.
 ghost use Rattle.std.specs.Prelude.{◌≡◌, ◌<◌, ◌≤◌, length};
 ghost use Rattle.coflow_units.specs.declared.limits.TheConstants.{MAX_SLOT};
-ghost use Rattle.picture.specs.Layout.{IsDrawable, bars_end, bars_height, curve_end, curve_top, middle, port_y, slot_count, slot_x};
+ghost use Rattle.picture.specs.Layout.{IsDrawable, IsInside, bar_width, bar_x, bars_end, bars_height, curve_end, curve_top, edge_x, hairline, middle, port_y, row_height, slot_count, slot_x};
 
-use crate::value::Picture;
+use crate::value::{Bar, Picture};
 
 /// How many slots the window has.
 pub fn slot_count(picture: &Picture) -> u64
@@ -28,9 +28,9 @@ pub fn bars_height(picture: &Picture) -> u64
 pub fn bars_end(picture: &Picture) -> u64
     requires { IsDrawable picture.now }
     ensures end { result ≡ bars_end picture.now }
-    ensures most { result ≤ 540 }
+    ensures most { result ≤ 560 }
 {
-    60 + bars_height(picture)
+    80 + bars_height(picture)
 }
 
 /// Where the curve begins.
@@ -38,7 +38,7 @@ pub fn curve_top(picture: &Picture) -> u64
     requires { IsDrawable picture.now }
     ensures top { result ≡ curve_top picture.now }
     ensures least { 10 ≤ result }
-    ensures most { result ≤ 620 }
+    ensures most { result ≤ 640 }
 {
     bars_end(picture) + 80
 }
@@ -47,7 +47,7 @@ pub fn curve_top(picture: &Picture) -> u64
 pub fn curve_end(picture: &Picture) -> u64
     requires { IsDrawable picture.now }
     ensures end { result ≡ curve_end picture.now }
-    ensures most { result ≤ 740 }
+    ensures most { result ≤ 760 }
 {
     curve_top(picture) + 120
 }
@@ -78,8 +78,53 @@ pub fn port_y(picture: &Picture, port: u64) -> u64
     requires drawable { IsDrawable picture.now }
     requires port { port < length picture.now.rows }
     ensures y { result ≡ port_y picture.now port }
-    ensures most { result ≤ 540 }
+    ensures most { result ≤ 560 }
 {
     let ports = picture.rows.as_slice().len() as u64;
-    60 + middle(port, ports, bars_height(picture))
+    80 + middle(port, ports, bars_height(picture))
+}
+
+/// How high the row of a port is.
+pub fn row_height(picture: &Picture) -> u64
+    requires { IsDrawable picture.now }
+    ensures { result ≡ row_height picture.now }
+{
+    bars_height(picture) / picture.rows.as_slice().len() as u64
+}
+
+/// Where the edge behind so many slots of the window lies, from left.
+pub fn edge_x(picture: &Picture, slots: u64) -> u64
+    requires drawable { IsDrawable picture.now }
+    requires short { slots ≤ MAX_SLOT }
+    ensures { result ≡ edge_x picture.now slots }
+{
+    70 + slots * 720 / slot_count(picture)
+}
+
+/// How wide a bar is.
+pub fn bar_width(picture: &Picture, bar: Bar) -> u64
+    requires drawable { IsDrawable picture.now }
+    requires inside { IsInside picture.now.window bar }
+    ensures { result ≡ bar_width picture.now bar }
+{
+    (bar.last - (bar.first - 1)) * 720 / slot_count(picture)
+}
+
+/// Where the middle of a bar lies, from left.
+pub fn bar_x(picture: &Picture, bar: Bar) -> u64
+    requires drawable { IsDrawable picture.now }
+    requires inside { IsInside picture.now.window bar }
+    ensures { result ≡ bar_x picture.now bar }
+{
+    let left = bar.first - picture.window.first;
+    let right = bar.last - (picture.window.first - 1);
+    70 + (left + right) * 360 / slot_count(picture)
+}
+
+/// The width of the white line around a bar, in thousandths of a slot.
+pub fn hairline(picture: &Picture) -> u64
+    requires { IsDrawable picture.now }
+    ensures { result ≡ hairline picture.now }
+{
+    (slot_count(picture) * 25 / 18).min(400)
 }

@@ -1,13 +1,12 @@
 //! The legend.
-ghost use Rattle.std.specs.Prelude.{◌≡◌, ◌<◌, ◌≤◌, ◌++◌, OnOk, length};
-ghost use Rattle.std.specs.List.{flat_map, range_with_len, slice_index_or};
-ghost use Rattle.picture.specs.declared.value.TheConstants.{LEGEND};
+ghost use Rattle.std.specs.Prelude.{◌≡◌, ◌<◌, ◌≤◌, ◌*◌, ◌++◌, OnOk};
+ghost use Rattle.std.specs.List.{flat_map, range_with_len};
 ghost use Rattle.picture.specs.Layout.{IsDrawable};
-ghost use Rattle.picture.specs.Svg.{entry_head, entry_text, legend_text, others_text, weight_of};
+ghost use Rattle.picture.specs.Svg.{legend_text, mark_entry, places_text, swatch_text, swatch_width, swatches};
 
-use crate::bars_text::id_of;
+use crate::marks::{has_marks, push_circle};
 use crate::number::push_number;
-use crate::palette::colour_at;
+use crate::palette::{colour_at, push_colour};
 use crate::value::Picture;
 use coflow_units::NoMemory;
 
@@ -16,71 +15,79 @@ pub(crate) fn push_legend(text: &mut Vec<u8>, picture: &Picture) -> Result<(), N
     requires { IsDrawable picture.now }
     ensures { OnOk result (text.new.items ≡ text.old.items ++ legend_text picture.now) }
 {
-    text.extend_from_slice(b"<text x='850' y='50'>most weight</text>\n")?;
-    push_entries(text, picture)?;
-    push_others(text, picture)?;
+    text.extend_from_slice(b"<text x='850' y='70'>place in the order</text>\n")?;
+    push_swatches(text, picture)?;
+    push_places(text, picture)?;
+    push_mark_entry(text, picture)?;
     Ok(())
 }
 
-/// The entries of the coflows with the most weight.
-fn push_entries(text: &mut Vec<u8>, picture: &Picture) -> Result<(), NoMemory>
-    requires { IsDrawable picture.now }
+/// The squares of the colours.
+fn push_swatches(text: &mut Vec<u8>, picture: &Picture) -> Result<(), NoMemory>
     ensures { OnOk result (text.new.items ≡ text.old.items ++
-        flat_map (entry_text picture.now) (range_with_len 0 (length picture.now.heavy))) }
+        flat_map (swatch_text picture.now) (range_with_len 0 (swatches picture.now))) }
 {
-    for place in 0..picture.heavy.as_slice().len() {
-        push_entry(text, picture, place)?;
+    for k in 0..swatches(picture) {
+        push_swatch(text, picture, k)?;
     }
     Ok(())
 }
 
-/// The entry of the coflow at a place.
-fn push_entry(text: &mut Vec<u8>, picture: &Picture, place: usize) -> Result<(), NoMemory>
-    requires drawable { IsDrawable picture.now }
-    requires place { place < length picture.now.heavy }
-    ensures { OnOk result (text.new.items ≡ text.old.items ++ entry_text picture.now place) }
+/// How many colours the legend shows.
+fn swatches(picture: &Picture) -> u64
+    ensures count { result ≡ swatches picture.now }
+    ensures some { 1 ≤ result }
+    ensures few { result ≤ 32 }
 {
-    let coflow = picture.heavy.as_slice()[place];
-    push_entry_head(text, place, colour_at(place))?;
-    push_number(text, b"coflow ", u64::from(id_of(picture, coflow)))?;
-    push_number(text, b", weight ", weight_of(picture, coflow))?;
+    (picture.ids.as_slice().len() as u64).max(1).min(32)
+}
+
+/// How wide each of them is.
+fn swatch_width(picture: &Picture) -> u64
+    ensures width { result ≡ swatch_width picture.now }
+    ensures most { result ≤ 256 }
+{
+    256 / swatches(picture)
+}
+
+/// The square of a colour.
+fn push_swatch(text: &mut Vec<u8>, picture: &Picture, k: u64) -> Result<(), NoMemory>
+    requires { k < 32 }
+    ensures { OnOk result (text.new.items ≡ text.old.items ++ swatch_text picture.now k) }
+{
+    let width = swatch_width(picture);
+    push_number(text, b"<rect x='", 850 + width * k)?;
+    push_number(text, b"' y='80' width='", width)?;
+    text.extend_from_slice(b"' height='12' fill='")?;
+    push_colour(text, colour_at(k as u32 + 1, swatches(picture)))?;
+    text.extend_from_slice(b"'/>\n")?;
+    Ok(())
+}
+
+/// The first and the last place, below their colours.
+fn push_places(text: &mut Vec<u8>, picture: &Picture) -> Result<(), NoMemory>
+    ensures { OnOk result (text.new.items ≡ text.old.items ++ places_text picture.now) }
+{
+    let end = 850 + swatch_width(picture) * swatches(picture);
+    push_number(text, b"<text x='850' y='108'>1</text>\n<text x='", end)?;
+    push_number(
+        text,
+        b"' y='108' text-anchor='end'>",
+        picture.ids.as_slice().len() as u64,
+    )?;
     text.extend_from_slice(b"</text>\n")?;
     Ok(())
 }
 
-/// The square of a colour at a place, and the beginning of its words.
-fn push_entry_head(text: &mut Vec<u8>, place: usize, colour: &[u8]) -> Result<(), NoMemory>
-    requires { place ≤ LEGEND }
-    ensures { OnOk result (text.new.items ≡ text.old.items ++ entry_head place colour.now) }
-{
-    push_number(text, b"<rect x='850' y='", 20 * place as u64 + 60)?;
-    text.extend_from_slice(b"' width='12' height='12' fill='")?;
-    text.extend_from_slice(colour)?;
-    push_number(text, b"'/><text x='868' y='", 20 * place as u64 + 71)?;
-    text.extend_from_slice(b"'>")?;
-    Ok(())
-}
-
-/// The entry of the others, where there are any.
-fn push_others(text: &mut Vec<u8>, picture: &Picture) -> Result<(), NoMemory>
+/// What a mark says, where there are marks.
+fn push_mark_entry(text: &mut Vec<u8>, picture: &Picture) -> Result<(), NoMemory>
     requires { IsDrawable picture.now }
-    ensures { OnOk result (text.new.items ≡ text.old.items ++ others_text picture.now) }
+    ensures { OnOk result (text.new.items ≡ text.old.items ++ mark_entry picture.now) }
 {
-    let place = picture.heavy.as_slice().len();
-    if picture.ids.as_slice().len() <= place {
+    if !has_marks(picture) {
         return Ok(());
     }
-    push_entry_head(text, place, b"#bbbbbb")?;
-    text.extend_from_slice(b"other coflows</text>\n")?;
+    push_circle(text, 856, 128)?;
+    text.extend_from_slice(b"<text x='868' y='132'>completes its coflow</text>\n")?;
     Ok(())
-}
-
-/// The weight of a coflow, or 0 for one past the weights.
-fn weight_of(picture: &Picture, coflow: u32) -> u64
-    ensures { result ≡ weight_of picture.now coflow }
-{
-    match picture.weights.as_slice().get(coflow as usize) {
-        Some(weight) => *weight,
-        None => 0,
-    }
 }

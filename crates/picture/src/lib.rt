@@ -4,14 +4,16 @@
 mod axes;
 mod bars;
 mod bars_text;
-mod by_weight;
 mod canvas;
 mod curve;
 mod curve_text;
 pub mod laws;
 mod layout;
 mod legend;
+mod marks;
+mod means;
 mod number;
+mod order;
 mod palette;
 mod row;
 mod ticks;
@@ -20,8 +22,8 @@ mod value;
 mod writing;
 
 pub use bars::bars_of;
-pub use by_weight::heaviest;
 pub use curve::curve_of;
+pub use order::places_of;
 pub use row::PortBars;
 pub use value::{Bar, BarsFault, MAX_BARS, Picture, Step, Window};
 pub use writing::write_picture;

@@ -2,9 +2,9 @@
 ghost use Rattle.std.specs.Prelude.{◌≡◌, ◌<◌, ◌≤◌, ◌^◌, ◌++◌, OnOk};
 ghost use Rattle.picture.specs.Layout.{IsDrawable};
 ghost use Rattle.picture.specs.Svg.{title_text};
-ghost use Rattle.picture.specs.Title.{hundredths, ratio_words, title_words, two_digits};
+ghost use Rattle.picture.specs.Title.{hundredths, ratio_words, title_words};
 
-use crate::number::push_total;
+use crate::number::{push_total, push_two_digits};
 use crate::value::Picture;
 use coflow_units::NoMemory;
 
@@ -51,14 +51,4 @@ fn hundredths(cost: u128, bound: u128) -> u128
     ensures { result ≡ hundredths cost bound }
 {
     (100 * cost).div_ceil(bound)
-}
-
-/// A number of hundredths, with two digits behind the point.
-fn push_two_digits(text: &mut Vec<u8>, number: u128) -> Result<(), NoMemory>
-    ensures { OnOk result (text.new.items ≡ text.old.items ++ two_digits number) }
-{
-    push_total(text, b"", number / 100)?;
-    push_total(text, b".", number / 10 % 10)?;
-    push_total(text, b"", number % 10)?;
-    Ok(())
 }

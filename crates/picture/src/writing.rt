@@ -8,6 +8,8 @@ use crate::bars_text::push_bars;
 use crate::curve_text::push_curve;
 use crate::layout::curve_end;
 use crate::legend::push_legend;
+use crate::marks::push_marks;
+use crate::means::push_means;
 use crate::number::push_number;
 use crate::title::push_title;
 use crate::value::Picture;
@@ -16,11 +18,13 @@ use std::alloc::Global;
 
 /// The text of a picture: SVG 1.1, without scripts, and with nothing that lies outside of it.
 ///
-/// It has a title with cost and bound and how many times the least cost the schedule costs at most, rounded up; the bars in a frame, a port a row, where each bar names its coflow;
-/// the curve of completed coflows in another; axes with round numbers; and a legend of the coflows with the most weight.
+/// It has a title with cost and bound, how many times the least cost the schedule costs at most, rounded up, and the
+/// mean completions; the bars in a frame, a port a row, where each bar has the colour of its coflow's place, names its
+/// coflow, and is marked where it completes it; the curve of completed coflows in another, with lines where the means
+/// lie; axes with round numbers; and a legend of the colours.
 ///
-/// The window has a slot, and the bars lie inside it; the ports are at most as many as a side may have, and from 1; and the legend has at most `LEGEND` coflows. The cost is at
-/// most 2^120.
+/// The window has a slot, and the bars lie inside it; the ports are at most as many as a side may have, and from 1; and
+/// the weights add up to less than 2^64. Cost and bound are at most 2^120.
 /// The error is want of memory.
 pub fn write_picture(alloc: Global, picture: &Picture) -> Result<Vec<u8>, NoMemory>
     requires drawable { IsDrawable picture.now }
@@ -30,7 +34,9 @@ pub fn write_picture(alloc: Global, picture: &Picture) -> Result<Vec<u8>, NoMemo
     push_head(&mut text, picture)?;
     push_title(&mut text, picture)?;
     push_bars(&mut text, picture)?;
+    push_marks(&mut text, picture)?;
     push_curve(&mut text, picture)?;
+    push_means(&mut text, picture)?;
     push_axes(&mut text, picture)?;
     push_legend(&mut text, picture)?;
     text.extend_from_slice(b"</svg>\n")?;

@@ -1,10 +1,11 @@
 -- What a right report gives its picture, and the causes of the statuses of the program that draws.
 use Rattle.std.proofs.Common.{◌≡◌, ℕ, ◌^◌, ◌*◌, ◌≤◌, ◌<◌, List, [], Option, length, map, sym, ap, subst, ◌∙◌, arith}
-use Rattle.std.specs.Prelude.{All}
-use Rattle.std.proofs.Math.Nat.{mul-le-mul_left}
+use Rattle.std.specs.Prelude.{All, sum}
+use Rattle.std.proofs.Math.Nat.{div-mul-le_self, mul-le-mul_left}
 use Rattle.std.proofs.lemmas.Grind.{div_ceil_times}
 use Rattle.std.specs.List.{range_with_len, slice_index_or}
 use Rattle.std.proofs.lemmas.List.Elements.{All-weaker}
+use Rattle.std.proofs.lemmas.List.Sums.{sum_by-le}
 use Rattle.coflow_units.specs.declared.fabric.Flow.{Flow}
 use Rattle.coflow_units.specs.declared.fabric.Side.{Side}
 use Rattle.coflow_units.specs.declared.fabric.Side.TheVariants.{Egress, Ingress}
@@ -38,7 +39,7 @@ use Rattle.command_files.specs.Causes.{HasCauseInFiles}
 use Rattle.command_files.specs.Reports.{IsReportOf}
 use Rattle.command_files.specs.Ends.{IsReadFault, IsWriteFault}
 use Rattle.command_files.specs.Inputs.{IsInput}
-use Rattle.picture_cli.specs.Picture.{Draws, HasPictureCause, HasVerdictCause, IsNearBest, IsPictureOf, Judged, check_of}
+use Rattle.picture_cli.specs.Picture.{Draws, HasMeans, HasPictureCause, HasVerdictCause, IsNearBest, IsPictureOf, Judged, check_of}
 use Rattle.picture_cli.specs.Status.{as_check}
 use Rattle.picture_cli.specs.Words.{PictureSaid}
 use Rattle.picture_cli.specs.declared.status.PictureStatus.{PictureStatus}
@@ -61,6 +62,20 @@ pub cost_small : (t : TableFacts) (ws : List ℕ) (r : Report) → IsTable t →
 cost_small t ws r table report small sound =
     omega (arith, sound.cost_is, parts_small t.flows ws (slots_in r.runs) 0 (length t.ids) small (slots_short r report), table.few_coflows)
 
+-- a right report's bound is at most its cost, since its schedule is a valid one
+pub bound_small : (t : TableFacts) (ws : List ℕ) (r : Report) → IsTable t → IsReport r → All (λ w. w ≤ 4294967296) ws → IsSound (instance_of t ws) t.ids r → r.bound ≤ 2 ^ 120
+bound_small t ws r table report small sound =
+    omega (
+      arith,
+      cost_small t ws r table report small sound,
+      sound.bound_is_low,
+      sound.cost_is,
+      bound_law (instance_of t ws) _ (slots_in r.runs) sound.certificate sound.feasible sound.valid,
+    )
+
+pub weights_small : (t : TableFacts) (ws : List ℕ) → IsTable t → length ws ≡ length t.ids → All (λ w. w ≤ 4294967296) ws → sum ws < 2 ^ 64
+weights_small t ws table same small = omega (arith, sum_by-le (λ w. w) 4294967296 ws small, table.few_coflows)
+
 -- ---- what was read and drawn
 
 judged_by : (told : Option Told) (said : PictureSaid) (t : TableFacts) (ws : List ℕ) (r : Report) (v : Verdict) → IsInput told said.trace said.weights said.unit t ws →
@@ -74,6 +89,12 @@ near_best i ids r sound slots some valid =
     let low : r.bound ≤ least = omega (arith, sound.bound_is_low, bound_law i _ slots sound.certificate sound.feasible valid) in
     omega (arith, (div_ceil_times (100 * r.cost) r.bound some).0, mul-le-mul_left (hundredths r.cost r.bound) low)
 
+pub means_of : (i : Instance) (ids : List ℕ) (r : Report) (weight : ℕ) → IsSound i ids r → 1 ≤ weight → HasMeans i r weight
+means_of i ids r weight sound some = record {
+  at_most = (div_ceil_times (10 * r.cost) weight some).0;
+  none_below = λ slots valid. omega (arith, sound.bound_is_low, bound_law i _ slots sound.certificate sound.feasible valid, div-mul-le_self (10 * r.bound) weight);
+}
+
 pub draws_by : (told : Option Told) (said : PictureSaid) (t : TableFacts) (ws : List ℕ) (r : Report) (text : List ℕ) → IsInput told said.trace said.weights said.unit t ws →
     IsReportOf told said.report r →
     IsVerdict (instance_of t ws) t.ids r verdict.Yes × IsSound (instance_of t ws) t.ids r × (p : Picture) × IsPictureOf t ws r said p × (text ≡ picture_text p) →
@@ -84,6 +105,7 @@ draws_by told said t ws r text input report (holds, sound, p, shows, same) = rec
   right = sound;
   bounds = λ slots valid. omega (arith, sound.bound_is_low, bound_law (instance_of t ws) _ slots sound.certificate sound.feasible valid);
   near = near_best (instance_of t ws) t.ids r sound;
+  means = λ some. means_of (instance_of t ws) t.ids r (sum ws) sound some;
   picture = p;
   shows = shows;
   text_is = same;
@@ -137,9 +159,11 @@ bars_inside flows slots ports w rows kept k bars =
     (λ port lt. All-weaker (IsBar (Serves flows slots w.side port) w.first w.last) (IsInside w) (λ b is. record { some = is.some; from = is.from; upto = is.upto })
     (slice_index_or rows port []) (bars.row port (omega (arith, lt, bars.row_each))).bars)
 
-pub curve_along : (flows lent : List Flow) (slots : List (List ℕ)) (ends given : List ℕ) (n count : ℕ) (steps kept : List Step) → lent ≡ flows → count ≡ n → given ≡ ends →
-    ends ≡ map (λ c. completion lent slots c) (range_with_len 0 count) → kept ≡ steps → IsCurve given steps →
-    IsCurve (map (λ c. completion flows slots c) (range_with_len 0 n)) kept
-curve_along flows lent slots ends given n count steps kept f c g e k curve =
-    subst (λ (l : List Step). IsCurve (map (λ c. completion flows slots c) (range_with_len 0 n)) l) (sym k)
-    (subst (λ (l : List ℕ). IsCurve l steps) (ends_are flows lent slots ends given n count f c g e) curve)
+-- the completions of all coflows, kept after they were lent
+pub ends_along : (flows lent : List Flow) (slots : List (List ℕ)) (ends kept : List ℕ) (n count : ℕ) → lent ≡ flows → count ≡ n → kept ≡ ends →
+    ends ≡ map (λ c. completion lent slots c) (range_with_len 0 count) → kept ≡ map (λ c. completion flows slots c) (range_with_len 0 n)
+ends_along flows lent slots ends kept n count f c k e = ends_are flows lent slots ends kept n count f c k e
+
+pub curve_along : (ends given kept_ends : List ℕ) (steps kept : List Step) → given ≡ ends → kept_ends ≡ ends → kept ≡ steps → IsCurve given steps → IsCurve kept_ends kept
+curve_along ends given kept_ends steps kept g e k curve =
+    subst (λ (l : List Step). IsCurve kept_ends l) (sym k) (subst (λ (l : List ℕ). IsCurve l steps) (g ∙ sym e) curve)

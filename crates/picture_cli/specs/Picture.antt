@@ -1,5 +1,5 @@
 -- The picture of a report.
-use Rattle.std.specs.Prelude.{◌≡◌, ℕ, ◌*◌, ◌<◌, ◌≤◌, List, Option, length, map, min}
+use Rattle.std.specs.Prelude.{◌≡◌, ℕ, ◌*◌, ◌<◌, ◌≤◌, List, Option, length, map, min, sum}
 use Rattle.std.specs.List.{range_with_len}
 use Rattle.coflow_units.specs.Completion.{completion, cost}
 use Rattle.coflow_units.specs.Flows.{Instance}
@@ -10,6 +10,7 @@ use Rattle.class_rates.specs.declared.fold.Fold.TheVariants.{Count}
 use Rattle.cert_check.specs.declared.verdict.Verdict.{Verdict}
 use Rattle.cert_check.specs.declared.verdict.Verdict.TheVariants as verdict
 use Rattle.cert_check.specs.declared.verdict.Reason.{Reason}
+use Rattle.cert_check.specs.Places.{coflows_in}
 use Rattle.cert_check.specs.Reasons.{IsVerdict}
 use Rattle.cert_check.specs.Sound.{IsSound}
 use Rattle.picture.specs.declared.value.BarsFault.TheVariants as bars_fault
@@ -18,7 +19,8 @@ use Rattle.picture.specs.declared.value.Window.{Window}
 use Rattle.picture.specs.Bars.{IsBars, IsTooMany, bar_count}
 use Rattle.picture.specs.Curve.{IsCurve}
 use Rattle.picture.specs.declared.value.Picture.{Picture}
-use Rattle.picture.specs.Heaviest.{IsHeaviest}
+use Rattle.picture.specs.Means.{tenths_down, tenths_up}
+use Rattle.picture.specs.Order.{IsPlaces}
 use Rattle.picture.specs.Svg.{picture_text}
 use Rattle.picture.specs.Title.{hundredths}
 use Rattle.report_text.specs.declared.value.Report.{Report}
@@ -59,18 +61,19 @@ window_of said r = record {
 }
 
 -- The picture shows the report: a window with a slot, the bars of its schedule in the window, which are no more than a
--- picture may have, the completions of all coflows of the table as a curve, the ids and the weights, the coflows with the
--- most weight, and the stated cost and bound.
+-- picture may have, the completions of all coflows of the table and their curve, the ids and the weights, the places in
+-- the report's order, and the stated cost and bound.
 pub record IsPictureOf (t : TableFacts) (ws : List ℕ) (r : Report) (said : PictureSaid) (p : Picture) : Type 0
   where
     pub window_is : p.window ≡ window_of said r
     pub some : p.window.first ≤ p.window.last
     pub bars : IsBars t.flows (slots_in r.runs) t.ports p.window p.rows
     pub few : bar_count p.rows ≤ MAX_BARS
-    pub curve : IsCurve (map (λ c. completion t.flows (slots_in r.runs) c) (range_with_len 0 (length t.ids))) p.steps
+    pub ends_are : p.ends ≡ map (λ c. completion t.flows (slots_in r.runs) c) (range_with_len 0 (length t.ids))
+    pub curve : IsCurve p.ends p.steps
     pub ids_are : p.ids ≡ t.ids
     pub weights_are : p.weights ≡ ws
-    pub heaviest : IsHeaviest ws p.heavy
+    pub places_are : IsPlaces (coflows_in t.ids r.places) p.places
     pub cost_is : p.cost ≡ r.cost
     pub bound_is : p.bound ≡ r.bound
 
@@ -103,14 +106,22 @@ abbrev pub IsNearBest : Instance → Report → Type 0
 IsNearBest i r = (slots : List (List ℕ)) → 1 ≤ r.bound → IsValid i.flows slots →
     100 * r.cost ≤ hundredths r.cost r.bound * cost i.flows i.weight i.coflows slots
 
+-- What the title says of the means of a report, where each coflow counts as often as its weight says and the weights
+-- add up to this: that of its schedule is at most the first, and that of no valid schedule is below the second.
+pub record HasMeans (i : Instance) (r : Report) (weight : ℕ) : Type 0 where
+  pub at_most : 10 * r.cost ≤ tenths_up r.cost weight * weight
+  pub none_below : (slots : List (List ℕ)) → IsValid i.flows slots →
+      tenths_down r.bound weight * weight ≤ 10 * cost i.flows i.weight i.coflows slots
+
 -- The report of the files is right, so its bound is at most the cost of every valid schedule of the instance that they
--- give, and where the bound is above 0, its cost is at most as many times that cost as the title says. And this is the
--- text of its picture.
+-- give, and where the bound is above 0, its cost is at most as many times that cost as the title says. Where the
+-- weights add up to more than 0, the means are as the title says. And this is the text of its picture.
 pub record Draws (told : Option Told) (said : PictureSaid) (text : List ℕ) : Type 0 where
   pub judged : Judged told said verdict.Yes
   pub right : IsSound (instance_of judged.table judged.list) judged.table.ids judged.report
   pub bounds : BoundsEverySchedule (instance_of judged.table judged.list) judged.report
   pub near : IsNearBest (instance_of judged.table judged.list) judged.report
+  pub means : 1 ≤ sum judged.list → HasMeans (instance_of judged.table judged.list) judged.report (sum judged.list)
   pub picture : Picture
   pub shows : IsPictureOf judged.table judged.list judged.report said picture
   pub text_is : text ≡ picture_text picture

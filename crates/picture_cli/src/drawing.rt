@@ -2,11 +2,13 @@
 ghost use Rattle.std.specs.Prelude.{◌≡◌, ◌≤◌, All, IfErr, IfOk, length, min};
 ghost use Rattle.coflow_units.specs.declared.limits.TheConstants.{MAX_SLOT, MAX_WEIGHT};
 ghost use Rattle.cert_check.specs.declared.verdict.Verdict.{Verdict};
+ghost use Rattle.cert_check.specs.Places.{NamesEach, coflows_in};
 ghost use Rattle.cert_check.specs.Reasons.{IsVerdict};
 ghost use Rattle.cert_check.specs.Sound.{IsSound};
 ghost use Rattle.flow_table.specs.Table.{instance_of};
 ghost use Rattle.picture.specs.declared.value.Picture.{Picture};
 ghost use Rattle.picture.specs.Layout.{IsDrawable};
+ghost use Rattle.picture.specs.Order.{IsPlaces};
 ghost use Rattle.picture.specs.Svg.{picture_text};
 ghost use Rattle.report_text.specs.Report.{IsReport};
 ghost use Rattle.schedule_model.specs.RunList.{slots_in};
@@ -15,13 +17,13 @@ ghost use Rattle.picture_cli.specs.Words.{said_by};
 
 use crate::status::PictureStatus;
 use crate::value::PictureWords;
-use cert_check::Verdict;
+use cert_check::{Named, Verdict, coflows_of};
 use coflow_units::{Items, NoMemory};
 use command_files::Input;
 use flow_table::Table;
 use online_check::verdict_on;
-use picture::{Picture, Window, bars_of, curve_of, heaviest, write_picture};
-use report_text::Report;
+use picture::{Picture, Window, bars_of, curve_of, places_of, write_picture};
+use report_text::{PlaceLine, Report};
 use run_list::Runs;
 use schedule_model::completions_of_runs;
 use std::alloc::Global;
@@ -100,14 +102,15 @@ fn picture_in<'a>(
     let steps = curve_of(alloc, &ends)?;
     let ids = ids_of(alloc, table)?;
     let weights = copy_of(alloc, input.weights.as_slice())?;
-    let heavy = heaviest(alloc, input.weights.as_slice())?;
+    let places = places_in(alloc, table, report.places.as_slice())?;
     Ok(Picture {
         window,
         rows: Items::from_vec(rows),
+        ends: Items::from_vec(ends),
         steps: Items::from_vec(steps),
         ids,
         weights,
-        heavy: Items::from_vec(heavy),
+        places,
         cost: report.cost,
         bound: report.bound,
     })
@@ -148,6 +151,19 @@ fn ids_of(alloc: Global, table: &Table) -> Result<Items<u32>, NoMemory>
         ids.push(table.id(coflow))?;
     }
     Ok(Items::from_vec(ids))
+}
+
+/// The places of the coflows in the order of a report, by number.
+fn places_in(alloc: Global, table: &Table, lines: &[PlaceLine]) -> Result<Items<u32>, NoMemory>
+    requires { NamesEach (length table.now.ids) (coflows_in table.now.ids lines.now) }
+    ensures { IfOk result (IsPlaces (coflows_in table.now.ids lines.now)) }
+{
+    let order = match coflows_of(alloc, table, lines)? {
+        Named::Coflows(order) => order,
+        Named::Wrong(_) => unreachable!(),
+    };
+    let places = places_of(alloc, table.coflows(), &order)?;
+    Ok(Items::from_vec(places))
 }
 
 /// The same weights.

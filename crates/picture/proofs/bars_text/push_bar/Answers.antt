@@ -8,6 +8,6 @@ returns c =
     (c.in_ok-push_number-2.ensures))
     (rw (c.saturating_sub-length.ensures, c.saturating_sub.ensures) at c.in_ok-push_number-3.ensures))
     (c.in_ok-extend_from_slice.ensures.items))
-    (rw (c.fill_of.ensures, c.as_slice.ensures) at c.in_ok-extend_from_slice-2.ensures.items))
+    (rw c.colour_of.ensures at c.in_ok-push_colour.ensures))
     (rw (c.from.ensures, c.id_of.ensures) at c.in_ok-push_number-4.ensures))
-    (c.in_ok-extend_from_slice-3.ensures.items)
+    (c.in_ok-extend_from_slice-2.ensures.items)

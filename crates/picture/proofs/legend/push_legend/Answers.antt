@@ -4,4 +4,7 @@ use Rattle.picture.proofs.legend.push_legend.Goals as goal
 pub returns : goal.returns
 returns c =
     let t = c.args.text.now.items in
-    more t _ _ (more t _ _ (c.in_ok-extend_from_slice.ensures.items) (c.in_ok-push_entries.ensures)) (c.in_ok-push_others.ensures)
+    more t _ _ (more t _ _ (more t _ _ (c.in_ok-extend_from_slice.ensures.items)
+    (c.in_ok-push_swatches.ensures))
+    (c.in_ok-push_places.ensures))
+    (c.in_ok-push_mark_entry.ensures)

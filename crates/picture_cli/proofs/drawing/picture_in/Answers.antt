@@ -1,12 +1,17 @@
-use Rattle.std.proofs.Common.{◌≡◌, ◌≤◌, ◌∙◌, ℕ, List, length, min, refl, ap, sym, subst, arith}
+use Rattle.std.proofs.Common.{◌≡◌, ◌≤◌, ◌<◌, ◌^◌, ◌∙◌, ℕ, List, length, min, refl, ap, sym, subst, arith}
 use Rattle.cert_check.proofs.SlotSteps.{runs_kept}
+use Rattle.cert_check.proofs.Verdicts.{names_each}
+use Rattle.cert_check.specs.Places.{NamesEach, coflows_in}
+use Rattle.std.specs.Prelude.{sum}
 use Rattle.schedule_model.specs.RunList.{slots_in}
 use Rattle.picture.specs.declared.value.Bar.{Bar}
 use Rattle.picture.specs.declared.value.TheConstants.{MAX_BARS}
 use Rattle.picture.specs.Bars.{bar_count}
-use Rattle.picture.specs.Heaviest.{IsHeaviest}
+use Rattle.picture.specs.Order.{IsPlaces}
+use Rattle.report_text.specs.declared.value.PlaceLine.{PlaceLine}
 use Rattle.picture_cli.specs.Words.{said_by}
-use Rattle.picture_cli.proofs.PictureFacts.{bars_along, bars_inside, clear_along, cost_small, curve_along, names_along, names_flows, slots_short, window_same}
+use Rattle.picture_cli.proofs.PictureFacts.{bars_along, bars_inside, bound_small, clear_along, cost_small, curve_along, ends_along}
+use Rattle.picture_cli.proofs.PictureFacts.{names_along, names_flows, slots_short, weights_small, window_same}
 use Rattle.picture_cli.proofs.drawing.picture_in.Goals as goal
 
 pub window_in-window-requires : goal.window_in-window-requires
@@ -27,6 +32,11 @@ completions_of_runs-requires-clause-names c =
     names_along c.args.input.now.table.flows c.flows-2.result.now (slots_in c.args.report.now.runs) c.flows-2.ensures.flows
     (names_flows c.args.input.now.table c.args.input.now.weights c.args.report.now c.requires.right)
 
+pub places_in-requires : goal.places_in-requires
+places_in-requires c =
+    subst (λ (lines : List PlaceLine). NamesEach (length c.args.input.now.table.ids) (coflows_in c.args.input.now.table.ids lines)) (sym c.as_slice-2.ensures)
+    (names_each c.args.input.now.table c.args.input.now.weights c.args.report.now.places c.requires.right.certificate)
+
 pub returns-clause-shows : goal.returns-clause-shows
 returns-clause-shows c =
     let table = c.args.input.now.table in
@@ -39,13 +49,13 @@ returns-clause-shows c =
       bars = bars_along table.flows c.flows.result.now slots table.ports c.ports.result c.window_in-window.result c.in_ok-rows.rows.items c.from_vec.result
           c.flows.ensures.flows c.ports.ensures.ports c.from_vec.ensures c.in_ok-rows.ensures.bars;
       few = subst (λ (xs : List (List Bar)). bar_count xs ≤ MAX_BARS) (sym c.from_vec.ensures) c.in_ok-rows.ensures.few;
-      curve = curve_along table.flows c.flows-2.result.now slots c.in_ok-ends.ends.items c.deref.result.now (length table.ids) c.coflows.result c.in_ok-steps.steps.items
-          c.from_vec-2.result
-          c.flows-2.ensures.flows c.coflows.ensures.coflows c.deref.ensures.value c.in_ok-ends.ensures c.from_vec-2.ensures c.in_ok-steps.ensures;
+      ends_are = ends_along table.flows c.flows-2.result.now slots c.in_ok-ends.ends.items c.from_vec-2.result (length table.ids) c.coflows.result
+          c.flows-2.ensures.flows c.coflows.ensures.coflows c.from_vec-2.ensures c.in_ok-ends.ensures;
+      curve = curve_along c.in_ok-ends.ends.items c.deref.result.now c.from_vec-2.result c.in_ok-steps.steps.items c.from_vec-3.result
+          c.deref.ensures.value c.from_vec-2.ensures c.from_vec-3.ensures c.in_ok-steps.ensures;
       ids_are = c.in_ok-ids.ensures;
       weights_are = c.in_ok-weights.ensures ∙ c.as_slice.ensures;
-      heaviest = subst (IsHeaviest c.args.input.now.weights) (sym c.from_vec-3.ensures)
-          (subst (λ ws. IsHeaviest ws c.in_ok-heavy.heavy.items) c.as_slice-2.ensures c.in_ok-heavy.ensures);
+      places_are = subst (λ lines. IsPlaces (coflows_in table.ids lines) c.in_ok-places.places) c.as_slice-2.ensures c.in_ok-places.ensures;
       cost_is = refl;
       bound_is = refl;
     }
@@ -56,7 +66,7 @@ returns-clause-drawable c =
     let short = slots_short c.args.report.now c.requires.report in
     let last : c.window_in-window.result.last ≡ min c.args.words.to (length (slots_in c.args.report.now.runs)) = c.window_in-window.ensures.last in
     let rows : length c.from_vec.result ≡ table.ports = ap (λ (xs : List (List Bar)). length xs) c.from_vec.ensures ∙ c.in_ok-rows.ensures.bars.row_each ∙ c.ports.ensures.ports in
-    let heavy : length c.from_vec-3.result ≡ length c.in_ok-heavy.heavy.items = ap (λ (xs : List ℕ). length xs) c.from_vec-3.ensures in
+    let weights : c.in_ok-weights.weights ≡ c.args.input.now.weights = c.in_ok-weights.ensures ∙ c.as_slice.ensures in
     record {
       counted = omega (arith, c.window_in-window.ensures.first, c.args.words.some_first);
       some = omega arith;
@@ -65,6 +75,8 @@ returns-clause-drawable c =
       few_ports = omega (arith, rows, c.ports.ensures.table.few_ports);
       inside = bars_inside c.flows.result.now (slots_in c.args.report.now.runs) c.ports.result c.window_in-window.result c.in_ok-rows.rows.items c.from_vec.result
           c.from_vec.ensures c.in_ok-rows.ensures.bars;
-      few_coflows = omega (arith, heavy, c.in_ok-heavy.ensures.few);
+      small_weights = subst (λ (ws : List ℕ). sum ws < 2 ^ 64) (sym weights)
+          (weights_small table c.args.input.now.weights c.ports.ensures.table c.requires.count c.requires.weights);
       small_cost = cost_small table c.args.input.now.weights c.args.report.now c.ports.ensures.table c.requires.report c.requires.weights c.requires.right;
+      small_bound = bound_small table c.args.input.now.weights c.args.report.now c.ports.ensures.table c.requires.report c.requires.weights c.requires.right;
     }
