@@ -7,7 +7,18 @@
 //! The exit code is 0 where the hall was closed, and 1 where something was wanting.
 #![tactic(auto)]
 
-use hall_games::{Stop, play_words};
+mod callers;
+mod closing;
+mod draw;
+mod game;
+mod locked;
+mod playing;
+mod seats;
+mod stop;
+mod telling;
+
+use crate::playing::play_words;
+use crate::stop::Stop;
 use outside::DiskShelf;
 use std::env;
 use std::process::ExitCode;

@@ -10,15 +10,29 @@
 //! The exit code is 0 where all rows were carried out, and 1 where a row is not such, or something else was wanting.
 #![tactic(auto)]
 
+mod carrying;
+mod fault;
+mod gates;
+mod job;
+mod meeting;
+mod row;
+mod stage;
 mod stop;
+mod stutter;
+mod sure;
+mod telling;
+mod wires;
 
 ghost use Rattle.std.specs.Prelude.{◌≤◌, IfOk, length};
 ghost use Rattle.coflow_units.specs.declared.limits.TheConstants.{MAX_TEXT};
 
+use crate::carrying::carry_job;
+use crate::job::job_of;
+use crate::row::{Row, row_of, words_of};
 use crate::stop::Stop;
+use crate::sure::{SureEnd, sure_plan};
 use coflow_units::MAX_TEXT;
 use outside::{DiskShelf, Place4, Shelf};
-use small_jobs::{Row, SureEnd, carry_job, job_of, row_of, sure_plan, words_of};
 use std::alloc::Global;
 use std::env;
 use std::process::ExitCode;

@@ -1,5 +1,5 @@
 //! Why rows are not carried out to their end.
-use small_jobs::JobFault;
+use crate::fault::JobFault;
 use test_support::FileFault;
 
 /// Why rows are not carried out to their end.

@@ -1,12 +1,13 @@
 //! Masters and worlds that play the lines of a list.
 ghost use Rattle.std.specs.Prelude.{◌≡◌};
 
+use crate::fault::ListFault;
+use crate::line::{Said, said_of};
 use crate::stop::Stop;
 use crate::telling::{tell_closed, tell_journal, tell_master, tell_sent, tell_world};
 use coflow_units::NoMemory;
 use journal::RunTally;
 use master_core::{Command, Master};
-use master_lists::{ListFault, Said, said_of};
 use std::alloc::Global;
 use std::io;
 use text_fields::{Fields, Lines};

@@ -9,20 +9,25 @@
 //! The exit code is 0 where all lines were played, and 1 where a line is not such, or something else was wanting.
 #![tactic(auto)]
 
+mod fault;
 mod game;
+mod line;
+mod setting;
 mod stop;
 mod telling;
 
 ghost use Rattle.std.specs.Prelude.{◌≡◌, ◌≤◌, [], All, IfOk, length, vec_len};
-ghost use Rattle.master_lists.specs.declared.setting.TheConstants.{MAX_LIMIT};
+ghost use Rattle.master_runs.specs.declared.setting.TheConstants.{MAX_LIMIT};
 ghost use Rattle.coflow_units.specs.declared.limits.TheConstants.{MAX_TEXT, MAX_WEIGHT};
 
+use crate::fault::ListFault;
 use crate::game::{play_master, play_world};
+use crate::line::{index, word};
+use crate::setting::{Setting, setting_of};
 use crate::stop::Stop;
 use coflow_units::{Items, NoMemory, UnitSize};
 use flow_table::Table;
 use master_core::Master;
-use master_lists::{ListFault, Setting, index, setting_of, word};
 use outside::{DiskShelf, Place4, Shelf};
 use std::alloc::Global;
 use std::env;

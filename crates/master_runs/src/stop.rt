@@ -1,6 +1,6 @@
 //! Why a list is not played to its end.
+use crate::fault::ListFault;
 use coflow_units::NoMemory;
-use master_lists::ListFault;
 use std::io;
 use test_support::FileFault;
 

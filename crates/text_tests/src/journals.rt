@@ -1,7 +1,7 @@
 //! Texts of printed journals.
 use crate::run_text_rows::{had, is_told, parts_of};
 use coflow_units::MAX_TEXT;
-use report::{Live, read_live, write_live};
+use live_text::{Live, read_live, write_live};
 use std::alloc::Global;
 use std::process::Abort;
 

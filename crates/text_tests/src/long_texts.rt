@@ -4,7 +4,7 @@ ghost use Rattle.std.specs.List.Sorted.{IsStrictlyIncreasing};
 
 use crate::run_text_rows::had;
 use outside::MemSink;
-use report::Text;
+use report_text::Text;
 use run_list::Runs;
 use std::alloc::Global;
 use std::process::Abort;

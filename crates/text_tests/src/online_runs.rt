@@ -1,8 +1,7 @@
 //! Texts of online runs.
 use crate::run_text_rows::{had, is_told, parts_of};
 use coflow_units::MAX_TEXT;
-use online_text::is_online;
-use report::{read_online, write_online};
+use online_text::{is_online, read_online, write_online};
 use std::alloc::Global;
 use std::process::Abort;
 

@@ -2,7 +2,7 @@
 ghost use Rattle.report_text.specs.Report.{HasWeights};
 
 use coflow_units::{Items, MAX_TEXT, Port, Side};
-use report::{PlaceLine, Report, ReportFault, read_report, write_report};
+use report_text::{PlaceLine, Report, ReportFault, read_report, write_report};
 use run_list::Runs;
 use std::alloc::Global;
 use std::fmt::Debug;

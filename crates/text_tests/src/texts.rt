@@ -4,7 +4,7 @@ ghost use Rattle.report_text.specs.Compared.{IsName};
 ghost use Rattle.report_text.specs.declared.compared.RowLine.{RowLine};
 
 use coflow_units::Items;
-use report::{
+use report_text::{
     ClassText, Compare, Made, Member, RowLine, RowText, write_classes, write_compare, write_made,
 };
 use run_list::Runs;

@@ -55,6 +55,7 @@ fn tell_job(rt: &impl Abort, text: &mut String, job: Job<'_>) {
         Job::Online { trace } => tell_names(rt, text, "Online", trace, "-"),
         Job::Live { trace, script } => tell_names(rt, text, "Live", trace, script),
         Job::Serve { trace, order } => tell_names(rt, text, "Serve", trace, order),
+        Job::Replay { trace } => tell_names(rt, text, "Replay", trace, "-"),
     }
 }
 
@@ -152,7 +153,12 @@ live -- -t -s => Live -t -s - 1 4 1024 1 8 8 Count
 live t s --epoch 5 --slot-ms 6 --classes 7 => Live t s - 1 4 5 1 6 7 Count
 serve a b => Serve a b - 1 4 1024 1 8 8 Count
 --unit 2 serve a --weights=w b => Serve a b w 2 4 1024 1 8 8 Count
-serve -- -a -b => Serve -a -b - 1 4 1024 1 8 8 Count";
+serve -- -a -b => Serve -a -b - 1 4 1024 1 8 8 Count
+replay t => Replay t - - 1 4 1024 1 8 8 Count
+replay t --epoch 4 --slot-ms 20 => Replay t - - 1 4 4 1 20 8 Count
+--slot-ms=1048576 replay --epoch 1 --weights w t --unit=3 => Replay t - w 3 4 1 1 1048576 8 Count
+replay -- -t => Replay -t - - 1 4 1024 1 8 8 Count
+replay replay => Replay replay - - 1 4 1024 1 8 8 Count";
 
 #[test]
 fn lines_that_are_read(rt: HostRuntime) {
@@ -288,7 +294,15 @@ serve a b c
 serve a -
 serve - b
 serve a b --unit 0
-server a b";
+server a b
+replay
+replay t r
+replay -
+replay t --epoch 0
+replay t --epoch 1099511627777
+replay t --slot-ms 0
+replay t --epoch 4 --epoch=4
+replays t";
 
 #[test]
 fn lines_that_are_refused(rt: HostRuntime) {

@@ -1,6 +1,0 @@
--- at most as many commands more were carried out as turns are over
-use Rattle.hall_games.specs.Locked.{HasAsked}
-use Rattle.hall_games.proofs.locked.lock_many.Given as goal
-
-abbrev pub invariant-loop-turn : goal.invariant-loop-turn
-invariant-loop-turn g l = HasAsked l.turn l.fn.caller l.caller
