@@ -222,6 +222,8 @@ def cases():
     """Each worked text and each text of the pages, with its words and its trace."""
     yield from WORKED
     for (program, *words), text in (command for page in PAGES for command in shown(page)):
+        if words[0] == "replay":
+            continue  # plain_replay.py looks at these
         name = words[0 if program == "cat" else 1]
         with open(os.path.join(TOP, name), encoding="ascii") as file:
             trace = file.read()
