@@ -171,10 +171,10 @@ def replay_table(works, epochs):
     return table(["slot, slots of an epoch", *REPLAYED, "bssi, by `online`"], spanned(rows))
 
 
-def tables_of(works, timed):
-    """The four tables of these workloads; times are told by the last."""
+def tables_of(works, folds, timed):
+    """Policies, classes by each fold, and times of these workloads."""
     yield table(["workload", *POLICIES], spanned(policy_row(work) for work in works))
-    for fold in FOLDS:
+    for fold in folds:
         yield table(["workload", *["%d" % count for count in CLASSES]], spanned(class_row(work, fold) for work in works))
     yield timed
 
@@ -201,8 +201,8 @@ def made(small):
     with tempfile.TemporaryDirectory() as room:
         works = list(small_works(room) if small else large_works(room))
         if small:
-            return [*tables_of(works, mean_table(works[-1])), replay_table(works[-1:], EPOCHS[:1])]
-        return [*tables_of(works, mean_table(works[0])), replay_table(works[: len(SEEDS)], EPOCHS)]
+            return [*tables_of(works, FOLDS[1:], mean_table(works[-1])), replay_table(works[-1:], EPOCHS[:1])]
+        return [*tables_of(works, FOLDS, mean_table(works[0])), replay_table(works[: len(SEEDS)], EPOCHS)]
 
 
 def check():
@@ -212,7 +212,7 @@ def check():
     missing = [text for text in made(True) if text not in page]
     for text in missing:
         print("the page has not:\n" + text)
-    print("%d passed, %d failed" % (5 - len(missing), len(missing)))
+    print("%d passed, %d failed" % (4 - len(missing), len(missing)))
     return 1 if missing else 0
 
 

@@ -17,7 +17,8 @@ sys.dont_write_bytecode = True  # the folder stays as it is
 
 from online_runs import Instance, facts_of, least_cost, online_of
 from plain_online import SEARCHED, Kind, drawn, options_of, ran, trace_text
-from plain_plan import Coflow, flows_of, up, weights_text, write
+from plain_compare import PAGES, shown
+from plain_plan import TOP, Coflow, flows_of, up, weights_text, write
 from plain_stats import value_in
 from replay_runs import LIMIT, ORDERS, QUARTERS, bench, certified, cost_of, instance_of, replays_of, runs_of, text_of, told_of
 
@@ -232,6 +233,14 @@ def refused_fault(folder, words):
     return None
 
 
+def shown_faults(built):
+    """What the pages show of `replay`."""
+    for (_, *words), text in (command for page in PAGES for command in shown(page)):
+        if words[:1] == ["replay"]:
+            wrong = told_of(instance_of(TOP, words[1:])) != (0, text, "") or (built and ran(TOP, words) != (0, text, ""))
+            yield " ".join(words), "a page shows another text" if wrong else None
+
+
 def faults(folder, built, count):
     """The name of each thing that is tried, and what is wrong with it, or None."""
     for words, trace, weights, text in WORKED:
@@ -261,7 +270,7 @@ def main():
     words = words if built else words[1:]
     passed = failed = 0
     with tempfile.TemporaryDirectory() as folder:
-        for name, fault in faults(folder, built, int(words[0]) if words else 300):
+        for name, fault in [*shown_faults(built), *faults(folder, built, int(words[0]) if words else 300)]:
             if fault:
                 print("%s\n%s" % (fault, name))
             passed, failed = passed + (fault is None), failed + (fault is not None)

@@ -9,5 +9,6 @@ pub mod ReadBack
 pub mod RowLaws
 pub mod RowSteps
 pub mod RunServes
+pub mod RunSteps
 pub mod TextSteps
 pub mod TickSteps

@@ -3,6 +3,7 @@ use Rattle.std.specs.Prelude.{ℕ, ◌+◌, ◌*◌, ◌-◌, ◌/◌, ◌<◌, 
 use Rattle.std.specs.List.{slice_index_or}
 use Rattle.coflow_units.specs.declared.limits.TheConstants.{MAX_PORTS, MAX_SLOT}
 use Rattle.picture.specs.declared.value.Bar.{Bar}
+use Rattle.picture.specs.declared.value.Span.{Span}
 use Rattle.picture.specs.declared.value.Window.{Window}
 use Rattle.picture.specs.declared.value.Picture.{Picture}
 
@@ -26,9 +27,23 @@ pub record IsDrawable (p : Picture) : Type 0 where
   pub small_cost : p.cost ≤ 2 ^ 120
   pub small_bound : p.bound ≤ 2 ^ 120
 
+-- the span has a slot, and its last slot is one that a schedule may have
+pub record IsSpan (s : Span) : Type 0 where
+  pub counted : 1 ≤ s.first
+  pub some : s.first ≤ s.last
+  pub short : s.last ≤ MAX_SLOT
+
+-- how many slots a span has
+abbrev pub slots_of : Span → ℕ
+slots_of s = s.last - (s.first - 1)
+
+-- the slots of the window
+abbrev pub span_of : Picture → Span
+span_of p = record { first = p.window.first; last = p.window.last }
+
 -- how many slots the window has
 abbrev pub slot_count : Picture → ℕ
-slot_count p = p.window.last - (p.window.first - 1)
+slot_count p = slots_of (span_of p)
 
 -- the height of the bars: 16 for each port, and 480 at most
 abbrev pub bars_height : Picture → ℕ
@@ -54,9 +69,9 @@ height p = curve_end p + 50
 abbrev pub middle : ℕ → ℕ → ℕ → ℕ
 middle part count size = (2 * part + 1) * size / (2 * count)
 
--- where the middle of a slot of the window lies, from left
-abbrev pub slot_x : Picture → ℕ → ℕ
-slot_x p slot = 70 + middle (slot - p.window.first) (slot_count p) 720
+-- where the middle of a slot of the span lies, from left
+abbrev pub slot_x : Span → ℕ → ℕ
+slot_x s slot = 70 + middle (slot - s.first) (slots_of s) 720
 
 -- where the middle of a port's row lies, from above
 abbrev pub port_y : Picture → ℕ → ℕ
@@ -66,9 +81,13 @@ port_y p port = 80 + middle port (length p.rows) (bars_height p)
 abbrev pub row_height : Picture → ℕ
 row_height p = bars_height p / length p.rows
 
+-- where the edge behind so many slots of the span lies, from left
+abbrev pub span_edge : Span → ℕ → ℕ
+span_edge s slots = 70 + slots * 720 / slots_of s
+
 -- where the edge behind so many slots of the window lies, from left
 abbrev pub edge_x : Picture → ℕ → ℕ
-edge_x p slots = 70 + slots * 720 / slot_count p
+edge_x p slots = span_edge (span_of p) slots
 
 -- how wide a bar is
 abbrev pub bar_width : Picture → Bar → ℕ

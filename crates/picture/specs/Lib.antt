@@ -6,6 +6,8 @@ pub mod Marks
 pub mod Means
 pub mod Order
 pub mod Palette
+pub mod Run
+pub mod RunSvg
 pub mod Svg
 pub mod Text
 pub mod Ticks

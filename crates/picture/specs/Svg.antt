@@ -4,10 +4,11 @@ use Rattle.std.specs.List.{flat_map, range_with_len, slice_index_or}
 use Rattle.coflow_units.specs.declared.fabric.Side.{Side}
 use Rattle.coflow_units.specs.declared.fabric.Side.TheVariants.{Ingress, Egress}
 use Rattle.picture.specs.declared.value.Bar.{Bar}
+use Rattle.picture.specs.declared.value.Span.{Span}
 use Rattle.picture.specs.declared.value.Step.{Step}
 use Rattle.picture.specs.declared.value.Picture.{Picture}
 use Rattle.picture.specs.Layout.{bars_end, bars_height, curve_end, curve_top, hairline, height, port_y, slot_count}
-use Rattle.picture.specs.Layout.{slot_x}
+use Rattle.picture.specs.Layout.{slot_x, slots_of, span_of}
 use Rattle.picture.specs.Marks.{circle_text, has_marks, id_of, marks_text}
 use Rattle.picture.specs.Means.{means_text}
 use Rattle.picture.specs.Palette.{colour_at, colour_of, colour_text}
@@ -15,12 +16,16 @@ use Rattle.picture.specs.Text.{numbered, three_digits}
 use Rattle.picture.specs.Ticks.{multiples, step_of}
 use Rattle.picture.specs.Title.{title_words}
 
--- the beginning, with a white ground
-abbrev pub head_text : Picture → List ℕ
-head_text p =
-    numbered (codes "<svg xmlns='http://www.w3.org/2000/svg' version='1.1' width='1150' height='") (height p) ++
-    numbered (codes "' font-family='sans-serif' font-size='13'>\n<rect width='1150' height='") (height p) ++
+-- the beginning of a picture of this height, with a white ground
+abbrev pub ground_text : ℕ → List ℕ
+ground_text size =
+    numbered (codes "<svg xmlns='http://www.w3.org/2000/svg' version='1.1' width='1150' height='") size ++
+    numbered (codes "' font-family='sans-serif' font-size='13'>\n<rect width='1150' height='") size ++
     codes "' fill='#ffffff'/>\n"
+
+-- the beginning
+abbrev pub head_text : Picture → List ℕ
+head_text p = ground_text (height p)
 
 -- the title
 abbrev pub title_text : Picture → List ℕ
@@ -88,19 +93,18 @@ frame_text top size = numbered (codes "<rect x='70' y='") top ++ numbered (codes
     codes "' fill='none' stroke='#000000'/>\n"
 
 -- the mark and the number of a slot, below where bars or curve end
-abbrev pub slot_tick : Picture → ℕ → ℕ → List ℕ
-slot_tick p end slot = numbered (codes "<rect x='") (slot_x p slot) ++ numbered (codes "' y='") end ++
-    numbered (codes "' width='1' height='5'/><text x='") (slot_x p slot) ++ numbered (codes "' y='") (end + 18) ++
+abbrev pub slot_tick : Span → ℕ → ℕ → List ℕ
+slot_tick s end slot = numbered (codes "<rect x='") (slot_x s slot) ++ numbered (codes "' y='") end ++
+    numbered (codes "' width='1' height='5'/><text x='") (slot_x s slot) ++ numbered (codes "' y='") (end + 18) ++
     numbered (codes "' text-anchor='middle'>") slot ++ codes "</text>\n"
 
--- the marks and the numbers of the window's slots that are multiples of the step
-abbrev pub slot_ticks : Picture → ℕ → ℕ → List ℕ
-slot_ticks p end step =
-    flat_map (λ k. slot_tick p end (k * step)) (multiples step p.window.first p.window.last)
+-- the marks and the numbers of the span's slots that are multiples of the step
+abbrev pub slot_ticks : Span → ℕ → ℕ → List ℕ
+slot_ticks s end step = flat_map (λ k. slot_tick s end (k * step)) (multiples step s.first s.last)
 
 -- the axis of slots below where bars or curve end
-abbrev pub slot_axis : Picture → ℕ → List ℕ
-slot_axis p end = slot_ticks p end (step_of (slot_count p)) ++
+abbrev pub slot_axis : Span → ℕ → List ℕ
+slot_axis s end = slot_ticks s end (step_of (slots_of s)) ++
     numbered (codes "<text x='430' y='") (end + 36) ++ codes "' text-anchor='middle'>slot</text>\n"
 
 -- a number beside what is at this height
@@ -127,8 +131,8 @@ done_axis p = height_label (curve_top p) (length p.ids) ++ height_label (curve_e
 
 -- frames and axes
 abbrev pub axes_text : Picture → List ℕ
-axes_text p = frame_text 80 (bars_height p) ++ slot_axis p (bars_end p) ++ port_axis p ++
-    frame_text (curve_top p) 120 ++ slot_axis p (curve_end p) ++ done_axis p
+axes_text p = frame_text 80 (bars_height p) ++ slot_axis (span_of p) (bars_end p) ++ port_axis p ++
+    frame_text (curve_top p) 120 ++ slot_axis (span_of p) (curve_end p) ++ done_axis p
 
 -- ---- the legend
 

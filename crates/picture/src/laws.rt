@@ -1,14 +1,16 @@
-//! Laws of bars and curves, of colours and means, and of the text of a picture.
+//! Laws of bars and curves, of colours and means, of the text of a picture, and of the picture of an online run.
 ghost use Rattle.coflow_units.specs.declared.fabric.Flow.{Flow};
 ghost use Rattle.picture.specs.Bars.{IsBars};
 ghost use Rattle.picture.specs.Curve.{IsCurve};
 ghost use Rattle.picture.specs.Layout.{IsDrawable};
 ghost use Rattle.picture.specs.Means.{tenths_down, tenths_up};
 ghost use Rattle.picture.specs.Palette.{ink_on, level, luminance};
+ghost use Rattle.picture.specs.Run.{IsRunOf};
 ghost use Rattle.picture.specs.Svg.{picture_text};
 ghost use Rattle.picture.specs.Title.{hundredths};
 ghost use Rattle.picture.specs.Told.{HasSmallIds, told_bars};
 ghost use Rattle.picture.specs.declared.palette.TheConstants.{COLOURS};
+ghost use Rattle.picture.specs.declared.run_value.RunPicture.{RunPicture};
 ghost use Rattle.picture.specs.declared.value.Picture.{Picture};
 ghost use Rattle.picture.specs.declared.value.Bar.{Bar};
 ghost use Rattle.picture.specs.declared.value.Step.{Step};
@@ -71,4 +73,10 @@ pub fn words_can_be_read()
 pub fn text_has_one_list_of_bars()
     ensures { (p q : Picture) → IsDrawable p → IsDrawable q → HasSmallIds p → HasSmallIds q →
         picture_text p ≡ picture_text q → told_bars p ≡ told_bars q }
+{}
+
+/// The ticks of an online run ascend where its orders are published one after another.
+pub fn ticks_ascend()
+    ensures { (arrived ends published : List ℕ) (p : RunPicture) → IsRunOf arrived ends published p →
+        AllPairs (λ a b. a < b) published → AllPairs (λ a b. a < b) p.ticks }
 {}

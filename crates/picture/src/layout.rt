@@ -1,9 +1,31 @@
 //! Where the parts of a picture lie.
 ghost use Rattle.std.specs.Prelude.{◌≡◌, ◌<◌, ◌≤◌, length};
 ghost use Rattle.coflow_units.specs.declared.limits.TheConstants.{MAX_SLOT};
-ghost use Rattle.picture.specs.Layout.{IsDrawable, IsInside, bar_width, bar_x, bars_end, bars_height, curve_end, curve_top, edge_x, hairline, middle, port_y, row_height, slot_count, slot_x};
+ghost use Rattle.picture.specs.Layout.{IsDrawable, IsInside, IsSpan, bar_width, bar_x, bars_end, bars_height, curve_end, curve_top, edge_x, hairline, middle, port_y, row_height, slot_count, slot_x, slots_of, span_edge, span_of};
 
-use crate::value::{Bar, Picture};
+use crate::value::{Bar, Picture, Span};
+
+/// The slots of the window.
+pub fn span_of(picture: &Picture) -> Span
+    requires { IsDrawable picture.now }
+    ensures slots { result ≡ span_of picture.now }
+    ensures span { IsSpan result }
+{
+    Span {
+        first: picture.window.first,
+        last: picture.window.last,
+    }
+}
+
+/// How many slots a span has.
+pub fn slots_of(span: Span) -> u64
+    requires { IsSpan span }
+    ensures count { result ≡ slots_of span }
+    ensures some { 1 ≤ result }
+    ensures short { result ≤ MAX_SLOT }
+{
+    span.last - (span.first - 1)
+}
 
 /// How many slots the window has.
 pub fn slot_count(picture: &Picture) -> u64
@@ -12,7 +34,7 @@ pub fn slot_count(picture: &Picture) -> u64
     ensures some { 1 ≤ result }
     ensures short { result ≤ MAX_SLOT }
 {
-    picture.window.last - (picture.window.first - 1)
+    slots_of(span_of(picture))
 }
 
 /// The height of the bars.
@@ -63,14 +85,14 @@ fn middle(part: u64, count: u64, size: u64) -> u64
     (2 * part + 1) * size / (2 * count)
 }
 
-/// Where the middle of a slot of the window lies, from left.
-pub fn slot_x(picture: &Picture, slot: u64) -> u64
-    requires drawable { IsDrawable picture.now }
-    requires from { picture.now.window.first ≤ slot }
-    requires upto { slot ≤ picture.now.window.last }
-    ensures { result ≡ slot_x picture.now slot }
+/// Where the middle of a slot of the span lies, from left.
+pub fn slot_x(span: Span, slot: u64) -> u64
+    requires span { IsSpan span }
+    requires from { span.first ≤ slot }
+    requires upto { slot ≤ span.last }
+    ensures { result ≡ slot_x span slot }
 {
-    70 + middle(slot - picture.window.first, slot_count(picture), 720)
+    70 + middle(slot - span.first, slots_of(span), 720)
 }
 
 /// Where the middle of a port's row lies, from above.
@@ -92,13 +114,22 @@ pub fn row_height(picture: &Picture) -> u64
     bars_height(picture) / picture.rows.as_slice().len() as u64
 }
 
+/// Where the edge behind so many slots of the span lies, from left.
+pub fn span_edge(span: Span, slots: u64) -> u64
+    requires span { IsSpan span }
+    requires short { slots ≤ MAX_SLOT }
+    ensures { result ≡ span_edge span slots }
+{
+    70 + slots * 720 / slots_of(span)
+}
+
 /// Where the edge behind so many slots of the window lies, from left.
 pub fn edge_x(picture: &Picture, slots: u64) -> u64
     requires drawable { IsDrawable picture.now }
     requires short { slots ≤ MAX_SLOT }
     ensures { result ≡ edge_x picture.now slots }
 {
-    70 + slots * 720 / slot_count(picture)
+    span_edge(span_of(picture), slots)
 }
 
 /// How wide a bar is.

@@ -1,5 +1,5 @@
 //! The legend.
-ghost use Rattle.std.specs.Prelude.{◌≡◌, ◌<◌, ◌≤◌, ◌*◌, ◌++◌, OnOk};
+ghost use Rattle.std.specs.Prelude.{◌≡◌, ◌<◌, ◌≤◌, ◌++◌, OnOk};
 ghost use Rattle.std.specs.List.{flat_map, range_with_len};
 ghost use Rattle.picture.specs.Layout.{IsDrawable};
 ghost use Rattle.picture.specs.Svg.{legend_text, mark_entry, places_text, swatch_text, swatch_width, swatches};

@@ -1,7 +1,7 @@
 //! What stands on the bars.
-ghost use Rattle.std.specs.Prelude.{◌≡◌, ◌<◌, ◌≤◌, ◌++◌, ◌*◌, ◌+◌, OnOk, decimal, length};
+ghost use Rattle.std.specs.Prelude.{◌≡◌, ◌<◌, ◌≤◌, ◌++◌, OnOk, decimal, length};
 ghost use Rattle.picture.specs.Layout.{IsDrawable, IsInside};
-ghost use Rattle.picture.specs.Marks.{all_marks, circle_text, completes, end_of, end_text, has_marks, has_room, id_of, id_text, mark_text, marks_text, row_marks};
+ghost use Rattle.picture.specs.Marks.{all_marks, circle_text, end_of, end_text, has_marks, has_room, id_of, id_text, mark_text, marks_text, row_marks};
 
 use crate::layout::{bar_width, bar_x, edge_x, port_y, row_height};
 use crate::number::{number_at, push_number};

@@ -1,9 +1,8 @@
 //! The mean completion of the schedule, and the mean that no schedule is below.
 ghost use Rattle.std.specs.List.{list_all};
-ghost use Rattle.std.specs.Prelude.{◌≡◌, ◌==◌, ◌<◌, ◌≤◌, ◌^◌, ◌*◌, ◌-◌, ◌++◌, IsTrue, OnOk, sum};
+ghost use Rattle.std.specs.Prelude.{◌≡◌, ◌==◌, ◌<◌, ◌≤◌, ◌^◌, ◌++◌, IsTrue, OnOk};
 ghost use Rattle.picture.specs.Layout.{IsDrawable};
 ghost use Rattle.picture.specs.Means.{dashes_of, drop_of, is_in_window, line_text, mean_lines, mean_text, mean_words, mean_x, means_text, means_title, tenths_down, tenths_up, total_of, weight_sum, words_of};
-ghost use Rattle.picture.specs.Text.{one_digit};
 
 use crate::layout::{curve_end, curve_top, slot_count};
 use crate::number::{push_number, push_one_digit};

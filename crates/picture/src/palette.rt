@@ -1,7 +1,6 @@
 //! The colours.
-ghost use Rattle.std.specs.Prelude.{◌≡◌, ◌<◌, ◌≤◌, ◌++◌, OnOk, length};
-ghost use Rattle.coflow_units.specs.declared.limits.TheConstants.{MAX_COFLOWS};
-ghost use Rattle.picture.specs.Palette.{blue, colour_at, colour_of, colour_text, green, ink_on, level, luminance, place_of, red};
+ghost use Rattle.std.specs.Prelude.{◌≡◌, ◌<◌, ◌++◌, OnOk};
+ghost use Rattle.picture.specs.Palette.{blue, colour_at, colour_of, colour_text, green, ink_on, luminance, place_of, red};
 
 use crate::number::{number_at, push_number};
 use crate::value::Picture;

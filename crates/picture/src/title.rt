@@ -45,7 +45,7 @@ fn push_ratio(text: &mut Vec<u8>, cost: u128, bound: u128) -> Result<(), NoMemor
 }
 
 /// The hundredths of cost by bound, rounded up.
-fn hundredths(cost: u128, bound: u128) -> u128
+pub(crate) fn hundredths(cost: u128, bound: u128) -> u128
     requires small { cost ≤ 2 ^ 120 }
     requires some { 0 < bound }
     ensures { result ≡ hundredths cost bound }

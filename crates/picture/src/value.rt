@@ -1,4 +1,4 @@
-//! Pictures, bars, windows and steps. Slots count from 1.
+//! Pictures, bars, windows, spans and steps. Slots count from 1.
 ghost use Rattle.std.specs.Prelude.{◌≡◌};
 
 use crate::row::PortBars;
@@ -19,6 +19,13 @@ pub struct Bar {
 #[derive(Clone, Copy, Debug, PartialEq, Eq)]
 pub struct Window {
     pub side: Side,
+    pub first: u64,
+    pub last: u64,
+}
+
+/// Slots from the first to the last, both among them.
+#[derive(Clone, Copy, Debug, PartialEq, Eq)]
+pub struct Span {
     pub first: u64,
     pub last: u64,
 }

@@ -1,7 +1,7 @@
 //! The text of a picture.
 ghost use Rattle.std.specs.Prelude.{◌≡◌, ◌++◌, IfOk, OnOk};
 ghost use Rattle.picture.specs.Layout.{IsDrawable};
-ghost use Rattle.picture.specs.Svg.{head_text, picture_text};
+ghost use Rattle.picture.specs.Svg.{ground_text, picture_text};
 
 use crate::axes::push_axes;
 use crate::bars_text::push_bars;
@@ -31,7 +31,7 @@ pub fn write_picture(alloc: Global, picture: &Picture) -> Result<Vec<u8>, NoMemo
     ensures text { IfOk result (λ bytes. bytes.items ≡ picture_text picture.now) }
 {
     let mut text = Vec::new(alloc);
-    push_head(&mut text, picture)?;
+    push_ground(&mut text, curve_end(picture) + 50)?;
     push_title(&mut text, picture)?;
     push_bars(&mut text, picture)?;
     push_marks(&mut text, picture)?;
@@ -43,12 +43,10 @@ pub fn write_picture(alloc: Global, picture: &Picture) -> Result<Vec<u8>, NoMemo
     Ok(text)
 }
 
-/// The beginning, with a white ground.
-fn push_head(text: &mut Vec<u8>, picture: &Picture) -> Result<(), NoMemory>
-    requires { IsDrawable picture.now }
-    ensures { OnOk result (text.new.items ≡ text.old.items ++ head_text picture.now) }
+/// The beginning of a picture of this height, with a white ground.
+pub(crate) fn push_ground(text: &mut Vec<u8>, height: u64) -> Result<(), NoMemory>
+    ensures { OnOk result (text.new.items ≡ text.old.items ++ ground_text height) }
 {
-    let height = curve_end(picture) + 50;
     push_number(
         text,
         b"<svg xmlns='http://www.w3.org/2000/svg' version='1.1' width='1150' height='",

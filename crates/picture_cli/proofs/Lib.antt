@@ -1,3 +1,4 @@
 pub mod AnswerFacts
 pub mod PictureFacts
+pub mod RunFacts
 pub mod WordFacts

@@ -14,9 +14,6 @@ use Rattle.coflow_units.specs.Flows.{Instance, end_at}
 use Rattle.coflow_units.specs.Schedule.{IsClear}
 use Rattle.cert_check.proofs.EndFacts.{ends_are}
 use Rattle.cert_check.proofs.SlotSteps.{runs_kept}
-use Rattle.cert_check.specs.declared.verdict.Verdict.{Verdict}
-use Rattle.cert_check.specs.declared.verdict.Verdict.TheVariants as verdict
-use Rattle.cert_check.specs.Reasons.{IsVerdict}
 use Rattle.cert_check.specs.Sound.{IsSound}
 use Rattle.dual_cert.proofs.DualLaw.{bound_law}
 use Rattle.flow_table.specs.Table.{IsTable, TableFacts, instance_of}
@@ -34,12 +31,13 @@ use Rattle.report_text.specs.declared.value.Report.{Report}
 use Rattle.report_text.specs.Report.{IsReport}
 use Rattle.schedule_model.proofs.CostSums.{parts_small}
 use Rattle.schedule_model.specs.RunList.{NamesFlows, slots_in}
-use Rattle.report_text.specs.Reading.{IsBadAt}
+use Rattle.online_check.specs.declared.any_report.AnyReport.{AnyReport}
+use Rattle.online_check.specs.AnyReport.{IsAnyBadAt}
 use Rattle.command_files.specs.Causes.{HasCauseInFiles}
-use Rattle.command_files.specs.Reports.{IsReportOf}
+use Rattle.command_files.specs.Reports.{IsAnyReportOf}
 use Rattle.command_files.specs.Ends.{IsReadFault, IsWriteFault}
 use Rattle.command_files.specs.Inputs.{IsInput}
-use Rattle.picture_cli.specs.Picture.{Draws, HasMeans, HasPictureCause, HasVerdictCause, IsNearBest, IsPictureOf, Judged, check_of}
+use Rattle.picture_cli.specs.Picture.{Draws, DrawsPlan, DrawsReport, HasMeans, HasPictureCause, HasVerdictCause, IsNearBest, IsPictureOf, IsRight, IsWrong, Judged, check_of}
 use Rattle.picture_cli.specs.Status.{as_check}
 use Rattle.picture_cli.specs.Words.{PictureSaid}
 use Rattle.picture_cli.specs.declared.status.PictureStatus.{PictureStatus}
@@ -78,9 +76,9 @@ weights_small t ws table same small = omega (arith, sum_by-le (λ w. w) 42949672
 
 -- ---- what was read and drawn
 
-judged_by : (told : Option Told) (said : PictureSaid) (t : TableFacts) (ws : List ℕ) (r : Report) (v : Verdict) → IsInput told said.trace said.weights said.unit t ws →
-    IsReportOf told said.report r → IsVerdict (instance_of t ws) t.ids r v → Judged told said v
-judged_by told said t ws r v input report is = record { table = t; list = ws; input = input; report = r; report_is = report; verdict_is = is }
+abbrev pub judged_by : (told : Option Told) (said : PictureSaid) (t : TableFacts) (ws : List ℕ) (report : AnyReport) (Answer : TableFacts → List ℕ → ℕ → AnyReport → Type 0) →
+    IsInput told said.trace said.weights said.unit t ws → IsAnyReportOf told said.report report → Answer t ws said.slot_ms report → Judged told said Answer
+judged_by told said t ws report Answer input is answer = record { table = t; list = ws; input = input; report = report; report_is = is; answer_is = answer }
 
 -- what the title says
 pub near_best : (i : Instance) (ids : List ℕ) (r : Report) → IsSound i ids r → IsNearBest i r
@@ -95,13 +93,9 @@ means_of i ids r weight sound some = record {
   none_below = λ slots valid. omega (arith, sound.bound_is_low, bound_law i _ slots sound.certificate sound.feasible valid, div-mul-le_self (10 * r.bound) weight);
 }
 
-pub draws_by : (told : Option Told) (said : PictureSaid) (t : TableFacts) (ws : List ℕ) (r : Report) (text : List ℕ) → IsInput told said.trace said.weights said.unit t ws →
-    IsReportOf told said.report r →
-    IsVerdict (instance_of t ws) t.ids r verdict.Yes × IsSound (instance_of t ws) t.ids r × (p : Picture) × IsPictureOf t ws r said p × (text ≡ picture_text p) →
-    Draws told said text
-unfolding judged_by
-draws_by told said t ws r text input report (holds, sound, p, shows, same) = record {
-  judged = judged_by told said t ws r verdict.Yes input report holds;
+pub draws_plan : (t : TableFacts) (ws : List ℕ) (r : Report) (said : PictureSaid) (text : List ℕ) (p : Picture) → IsSound (instance_of t ws) t.ids r → IsPictureOf t ws r said p →
+    text ≡ picture_text p → DrawsPlan t ws r said text
+draws_plan t ws r said text p sound shows same = record {
   right = sound;
   bounds = λ slots valid. omega (arith, sound.bound_is_low, bound_law (instance_of t ws) _ slots sound.certificate sound.feasible valid);
   near = near_best (instance_of t ws) t.ids r sound;
@@ -111,25 +105,28 @@ draws_by told said t ws r text input report (holds, sound, p, shows, same) = rec
   text_is = same;
 }
 
-pub cause_by : (before now : ℕ) (old new : Option Told) (said : PictureSaid) (t : TableFacts) (ws : List ℕ) (r : Report) (s : PictureStatus) →
-    IsInput old said.trace said.weights said.unit t ws → IsReportOf old said.report r → HasVerdictCause t ws r said s → HasPictureCause before now old new said s
-unfolding judged_by
-cause_by before now old new said t ws r drawn.No input report (reason, is) = (reason, judged_by old said t ws r (verdict.No reason) input report is)
-cause_by before now old new said t ws r (drawn.NoSlots first last) input report (holds, cause) = (judged_by old said t ws r verdict.Yes input report holds, cause)
-cause_by before now old new said t ws r (drawn.TooManyBars bars) input report (holds, cause) = (judged_by old said t ws r verdict.Yes input report holds, cause)
-cause_by before now old new said t ws r (drawn.Ended s) input report is = subst (λ x. HasCauseInFiles IsBadAt before now old new (check_of said) x) (sym is) tt
-cause_by before now old new said t ws r drawn.Ok input report (holds, cause) = absurd cause
-cause_by before now old new said t ws r drawn.Usage input report (holds, cause) = absurd cause
+pub draws_by : (told : Option Told) (said : PictureSaid) (t : TableFacts) (ws : List ℕ) (report : AnyReport) (text : List ℕ) → IsInput told said.trace said.weights said.unit t ws →
+    IsAnyReportOf told said.report report → IsRight t ws said.slot_ms report → DrawsReport t ws report said text → Draws told said text
+draws_by told said t ws report text input is right draws = record { judged = judged_by told said t ws report IsRight input is right; draws = draws }
+
+pub cause_by : (before now : ℕ) (old new : Option Told) (said : PictureSaid) (t : TableFacts) (ws : List ℕ) (report : AnyReport) (s : PictureStatus) →
+    IsInput old said.trace said.weights said.unit t ws → IsAnyReportOf old said.report report → HasVerdictCause t ws report said s → HasPictureCause before now old new said s
+cause_by before now old new said t ws report drawn.No input is wrong = judged_by old said t ws report IsWrong input is wrong
+cause_by before now old new said t ws report (drawn.NoSlots first last) input is (holds, cause) = (judged_by old said t ws report IsRight input is holds, cause)
+cause_by before now old new said t ws report (drawn.TooManyBars bars) input is (holds, cause) = (judged_by old said t ws report IsRight input is holds, cause)
+cause_by before now old new said t ws report (drawn.Ended s) input is memory = subst (λ x. HasCauseInFiles IsAnyBadAt before now old new (check_of said) x) (sym memory) tt
+cause_by before now old new said t ws report drawn.Ok input is (holds, cause) = absurd cause
+cause_by before now old new said t ws report drawn.Usage input is (holds, cause) = absurd cause
 
 -- no call to shelf or sink failed
-pub verdict_calls : (t : TableFacts) (ws : List ℕ) (r : Report) (said : PictureSaid) (s : PictureStatus) → HasVerdictCause t ws r said s →
+pub verdict_calls : (t : TableFacts) (ws : List ℕ) (report : AnyReport) (said : PictureSaid) (s : PictureStatus) → HasVerdictCause t ws report said s →
     (IsReadFault (as_check s) → ⊥) × (IsWriteFault (as_check s) → ⊥)
-verdict_calls t ws r said drawn.No cause = (λ f. f, λ f. f)
-verdict_calls t ws r said (drawn.NoSlots first last) cause = (λ f. f, λ f. f)
-verdict_calls t ws r said (drawn.TooManyBars bars) cause = (λ f. f, λ f. f)
-verdict_calls t ws r said (drawn.Ended s) is = (λ f. subst IsReadFault is f, λ f. subst IsWriteFault is f)
-verdict_calls t ws r said drawn.Ok cause = (λ f. f, λ f. f)
-verdict_calls t ws r said drawn.Usage cause = (λ f. f, λ f. f)
+verdict_calls t ws report said drawn.No cause = (λ f. f, λ f. f)
+verdict_calls t ws report said (drawn.NoSlots first last) cause = (λ f. f, λ f. f)
+verdict_calls t ws report said (drawn.TooManyBars bars) cause = (λ f. f, λ f. f)
+verdict_calls t ws report said (drawn.Ended s) is = (λ f. subst IsReadFault is f, λ f. subst IsWriteFault is f)
+verdict_calls t ws report said drawn.Ok cause = (λ f. f, λ f. f)
+verdict_calls t ws report said drawn.Usage cause = (λ f. f, λ f. f)
 
 -- ---- what was lent
 

@@ -25,7 +25,8 @@ one_saying v a b p q =
     let from = setting _ _ _ _ _ p.from q.from in
     let to = setting _ _ _ _ _ p.to q.to in
     let side = one_side _ _ _ p.side q.side in
-    λ i. record { trace = trace i; report = report i; weights = weights i; unit = unit i; from = from i; to = to i; side = side i }
+    let slot_ms = setting _ _ _ _ _ p.slot_ms q.slot_ms in
+    λ i. record { trace = trace i; report = report i; weights = weights i; unit = unit i; from = from i; to = to i; side = side i; slot_ms = slot_ms i }
   where
     setting : (most default : ℕ) (value : Option Text) (m n : ℕ) → IsSetting most default value m → IsSetting most default value n → m ≡ n
     setting most default None m n p q = p ∙ sym q

@@ -18,9 +18,9 @@ app_with_names = with_rule (with_rule empty_app (needed_rule (codes "TRACE"))) (
 
 -- The command, with options of one value each. An option stands once at most.
 abbrev pub app : App
-app = with_option
+app = with_option (with_option
     (with_option (with_option (with_option (with_option app_with_names (codes "weights")) (codes "unit"))
-    (codes "from")) (codes "to")) (codes "side")
+    (codes "from")) (codes "to")) (codes "side")) (codes "slot-ms")
 
 -- The parser accepts the words, and what was found is what they give each argument.
 pub record IsFound (words : List Text) (found : Found) : Type 0 where

@@ -1,5 +1,5 @@
 -- The picture of a report.
-use Rattle.std.specs.Prelude.{◌≡◌, ℕ, ◌*◌, ◌<◌, ◌≤◌, List, Option, length, map, min, sum}
+use Rattle.std.specs.Prelude.{◌≡◌, ℕ, ◌*◌, ◌-◌, ◌<◌, ◌≤◌, ◌==◌, List, Option, filter, length, map, min, not, slice_index, sum, sum_by}
 use Rattle.std.specs.List.{range_with_len}
 use Rattle.coflow_units.specs.Completion.{completion, cost}
 use Rattle.coflow_units.specs.Flows.{Instance}
@@ -7,7 +7,6 @@ use Rattle.coflow_units.specs.Schedule.{IsValid}
 use Rattle.flow_table.specs.Table.{TableFacts, instance_of}
 use Rattle.outside.specs.Shelf.{Told}
 use Rattle.class_rates.specs.declared.fold.Fold.TheVariants.{Count}
-use Rattle.cert_check.specs.declared.verdict.Verdict.{Verdict}
 use Rattle.cert_check.specs.declared.verdict.Verdict.TheVariants as verdict
 use Rattle.cert_check.specs.declared.verdict.Reason.{Reason}
 use Rattle.cert_check.specs.Places.{coflows_in}
@@ -23,11 +22,24 @@ use Rattle.picture.specs.Means.{tenths_down, tenths_up}
 use Rattle.picture.specs.Order.{IsPlaces}
 use Rattle.picture.specs.Svg.{picture_text}
 use Rattle.picture.specs.Title.{hundredths}
+use Rattle.picture.specs.declared.run_value.RunPicture.{RunPicture}
+use Rattle.picture.specs.Run.{IsRunOf}
+use Rattle.picture.specs.RunSvg.{run_picture_text}
+use Rattle.online_check.specs.declared.any_report.AnyReport.{AnyReport}
+use Rattle.online_check.specs.declared.any_report.AnyReport.TheVariants.{Online, Plan}
+use Rattle.online_check.specs.declared.verdict.OnlineReason.{OnlineReason}
+use Rattle.online_check.specs.AnyReport.{IsAnyBadAt}
+use Rattle.online_check.specs.Arrivals.{arrivals_in}
+use Rattle.online_check.specs.Done.{slots_done}
+use Rattle.online_check.specs.Reasons.{IsFirstOnlineReason}
+use Rattle.online_check.specs.Sound.{BoundsReleasedSchedules, IsSoundOnline}
+use Rattle.online_text.specs.declared.value.Epoch.{Epoch}
+use Rattle.online_text.specs.declared.value.Online.{Online as Run}
+use Rattle.release_bound.specs.Release.{IsReleased}
 use Rattle.report_text.specs.declared.value.Report.{Report}
 use Rattle.schedule_model.specs.RunList.{slots_in}
-use Rattle.report_text.specs.Reading.{IsBadAt}
 use Rattle.command_files.specs.Causes.{HasCauseInFiles}
-use Rattle.command_files.specs.Reports.{IsReportOf}
+use Rattle.command_files.specs.Reports.{IsAnyReportOf}
 use Rattle.command_files.specs.Ends.{IsWriteFault}
 use Rattle.command_files.specs.Inputs.{IsInput}
 use Rattle.plans.specs.Totals.{BoundsEverySchedule}
@@ -47,17 +59,22 @@ check_of said = record {
   agents = 4;
   epoch = 1024;
   run = 1;
-  slot_ms = 8;
+  slot_ms = said.slot_ms;
   classes = 8;
   fold = Count;
 }
 
+-- the schedule of a report, slot by slot
+abbrev pub slots_of : AnyReport → List (List ℕ)
+slots_of (Plan r) = slots_in r.runs
+slots_of (Online o) = slots_in o.runs
+
 -- the window that is drawn: its last slot is at most the last one of the schedule
-abbrev pub window_of : PictureSaid → Report → Window
-window_of said r = record {
+abbrev pub window_of : PictureSaid → AnyReport → Window
+window_of said report = record {
   side = said.side;
   first = said.from;
-  last = min said.to (length (slots_in r.runs));
+  last = min said.to (length (slots_of report));
 }
 
 -- The picture shows the report: a window with a slot, the bars of its schedule in the window, which are no more than a
@@ -65,7 +82,7 @@ window_of said r = record {
 -- the report's order, and the stated cost and bound.
 pub record IsPictureOf (t : TableFacts) (ws : List ℕ) (r : Report) (said : PictureSaid) (p : Picture) : Type 0
   where
-    pub window_is : p.window ≡ window_of said r
+    pub window_is : p.window ≡ window_of said (Plan r)
     pub some : p.window.first ≤ p.window.last
     pub bars : IsBars t.flows (slots_in r.runs) t.ports p.window p.rows
     pub few : bar_count p.rows ≤ MAX_BARS
@@ -77,29 +94,76 @@ pub record IsPictureOf (t : TableFacts) (ws : List ℕ) (r : Report) (said : Pic
     pub cost_is : p.cost ≡ r.cost
     pub bound_is : p.bound ≡ r.bound
 
+-- the times at which coflows arrive, where a slot takes so many milliseconds
+abbrev pub arrival_in : TableFacts → ℕ → ℕ → ℕ
+arrival_in t slot_ms = slice_index (arrivals_in t slot_ms)
+
+-- the coflows that a run completes in a slot: those with units
+abbrev pub completed_in : TableFacts → Run → List ℕ
+completed_in t o = filter (λ c. not (slice_index (slots_done o.done) c == 0)) (range_with_len 0 (length t.ids))
+
+-- what the arrivals of these coflows cost any schedule: the sum of weight times arrival
+abbrev pub arrivals_cost : List ℕ → (ℕ → ℕ) → List ℕ → ℕ
+arrivals_cost ws arrival coflows = sum_by (λ c. slice_index ws c * arrival c) coflows
+
+-- The picture shows the online run: a span with a slot, the arrivals and the completions of the coflows that have units,
+-- the publishings, and the stated cost and total with what the arrivals cost.
+pub record IsRunPictureOf (t : TableFacts) (ws : List ℕ) (o : Run) (said : PictureSaid) (p : RunPicture) : Type 0
+  where
+    pub first_is : p.span.first ≡ said.from
+    pub last_is : p.span.last ≡ min said.to (length (slots_in o.runs))
+    pub some : p.span.first ≤ p.span.last
+    pub run : IsRunOf (map (arrival_in t said.slot_ms) (completed_in t o))
+        (map (slice_index (slots_done o.done)) (completed_in t o)) (map (λ (e : Epoch). e.time) o.epochs) p
+    pub cost_is : p.costs.cost ≡ o.cost
+    pub total_is : p.costs.total ≡ o.total
+    pub arrivals_are : p.costs.arrivals ≡ arrivals_cost ws (arrival_in t said.slot_ms) (completed_in t o)
+
+-- the report is that of a plan
+abbrev pub IsPlan : AnyReport → Type 0
+IsPlan (Plan r) = Unit {0}
+IsPlan (Online o) = ⊥
+
+-- the report is that of an online run
+abbrev pub IsRun : AnyReport → Type 0
+IsRun (Plan r) = ⊥
+IsRun (Online o) = Unit {0}
+
 -- why a right report has no picture
-abbrev pub HasNoPicture : TableFacts → Report → PictureSaid → PictureStatus → Type 0
-HasNoPicture t r said (NoSlots first last) =
-    (first ≡ (window_of said r).first) × (last ≡ (window_of said r).last) × (last < first)
-HasNoPicture t r said (TooManyBars bars) =
-    IsTooMany t.flows (slots_in r.runs) t.ports (window_of said r) (bars_fault.TooMany bars)
-HasNoPicture t r said (Ended s) = s ≡ status.NoMemory
-HasNoPicture t r said s = ⊥
+abbrev pub HasNoPicture : TableFacts → AnyReport → PictureSaid → PictureStatus → Type 0
+HasNoPicture t report said (NoSlots first last) =
+    (first ≡ (window_of said report).first) × (last ≡ (window_of said report).last) × (last < first)
+HasNoPicture t report said (TooManyBars bars) = IsPlan report ×
+    IsTooMany t.flows (slots_of report) t.ports (window_of said report) (bars_fault.TooMany bars)
+HasNoPicture t report said (Ended s) = s ≡ status.NoMemory
+HasNoPicture t report said s = ⊥
+
+-- the answer of the check is yes
+abbrev pub IsRight : TableFacts → List ℕ → ℕ → AnyReport → Type 0
+IsRight t ws slot_ms (Plan r) = IsVerdict (instance_of t ws) t.ids r verdict.Yes
+IsRight t ws slot_ms (Online o) = IsSoundOnline (instance_of t ws) (arrival_in t slot_ms) t.ids o
+
+-- the answer of the check is no
+abbrev pub IsWrong : TableFacts → List ℕ → ℕ → AnyReport → Type 0
+IsWrong t ws slot_ms (Plan r) = (reason : Reason) × IsVerdict (instance_of t ws) t.ids r (verdict.No reason)
+IsWrong t ws slot_ms (Online o) = (reason : OnlineReason) ×
+    IsFirstOnlineReason (instance_of t ws) (arrival_in t slot_ms) t.ids o reason
 
 -- why a report has no picture: the answer of its check is no, or, where it is yes, one of those
-abbrev pub HasVerdictCause : TableFacts → List ℕ → Report → PictureSaid → PictureStatus → Type 0
-HasVerdictCause t ws r said No = (reason : Reason) × IsVerdict (instance_of t ws) t.ids r (verdict.No reason)
-HasVerdictCause t ws r said (Ended s) = s ≡ status.NoMemory
-HasVerdictCause t ws r said s = IsVerdict (instance_of t ws) t.ids r verdict.Yes × HasNoPicture t r said s
+abbrev pub HasVerdictCause : TableFacts → List ℕ → AnyReport → PictureSaid → PictureStatus → Type 0
+HasVerdictCause t ws report said No = IsWrong t ws said.slot_ms report
+HasVerdictCause t ws report said (Ended s) = s ≡ status.NoMemory
+HasVerdictCause t ws report said s = IsRight t ws said.slot_ms report × HasNoPicture t report said s
 
--- the instance that the files give, the report, and the verdict on it
-pub record Judged (told : Option Told) (said : PictureSaid) (answer : Verdict) : Type 0 where
+-- the instance that the files give, the report, and the answer of its check
+pub record Judged (told : Option Told) (said : PictureSaid) (Answer : TableFacts → List ℕ → ℕ → AnyReport → Type 0) :
+    Type 0 where
   pub table : TableFacts
   pub list : List ℕ
   pub input : IsInput told said.trace said.weights said.unit table list
-  pub report : Report
-  pub report_is : IsReportOf told said.report report
-  pub verdict_is : IsVerdict (instance_of table list) table.ids report answer
+  pub report : AnyReport
+  pub report_is : IsAnyReportOf told said.report report
+  pub answer_is : Answer table list said.slot_ms report
 
 -- What the title says of a report: its cost is at most so many hundredths of the cost of any valid schedule.
 abbrev pub IsNearBest : Instance → Report → Type 0
@@ -113,28 +177,54 @@ pub record HasMeans (i : Instance) (r : Report) (weight : ℕ) : Type 0 where
   pub none_below : (slots : List (List ℕ)) → IsValid i.flows slots →
       tenths_down r.bound weight * weight ≤ 10 * cost i.flows i.weight i.coflows slots
 
--- The report of the files is right, so its bound is at most the cost of every valid schedule of the instance that they
--- give, and where the bound is above 0, its cost is at most as many times that cost as the title says. Where the
--- weights add up to more than 0, the means are as the title says. And this is the text of its picture.
-pub record Draws (told : Option Told) (said : PictureSaid) (text : List ℕ) : Type 0 where
-  pub judged : Judged told said verdict.Yes
-  pub right : IsSound (instance_of judged.table judged.list) judged.table.ids judged.report
-  pub bounds : BoundsEverySchedule (instance_of judged.table judged.list) judged.report
-  pub near : IsNearBest (instance_of judged.table judged.list) judged.report
-  pub means : 1 ≤ sum judged.list → HasMeans (instance_of judged.table judged.list) judged.report (sum judged.list)
+-- What the title says of an online run: without what arrivals cost, its cost is at most so many hundredths of the cost
+-- of any schedule that waits for arrivals.
+abbrev pub IsNearLeast : Instance → (ℕ → ℕ) → Run → ℕ → Type 0
+IsNearLeast i arrival o a = (slots : List (List ℕ)) → a < o.total → IsReleased i.flows arrival slots →
+    100 * (o.cost - a) ≤ hundredths (o.cost - a) (o.total - a) * (cost i.flows i.weight i.coflows slots - a)
+
+-- The plan is right, so its bound is at most the cost of every valid schedule of the instance, and where the bound is
+-- above 0, its cost is at most as many times that cost as the title says. Where the weights add up to more than 0, the
+-- means are as the title says. And this is the text of its picture.
+pub record DrawsPlan (t : TableFacts) (ws : List ℕ) (r : Report) (said : PictureSaid) (text : List ℕ) : Type 0 where
+  pub right : IsSound (instance_of t ws) t.ids r
+  pub bounds : BoundsEverySchedule (instance_of t ws) r
+  pub near : IsNearBest (instance_of t ws) r
+  pub means : 1 ≤ sum ws → HasMeans (instance_of t ws) r (sum ws)
   pub picture : Picture
-  pub shows : IsPictureOf judged.table judged.list judged.report said picture
+  pub shows : IsPictureOf t ws r said picture
   pub text_is : text ≡ picture_text picture
+
+-- The online run is right, so no schedule that waits for arrivals costs less than its total, and without arrivals its
+-- cost is at most as many times the cost of each of these as the title says. And this is the text of its picture.
+pub record DrawsRun (t : TableFacts) (ws : List ℕ) (o : Run) (said : PictureSaid) (text : List ℕ) : Type 0 where
+  pub right : IsSoundOnline (instance_of t ws) (arrival_in t said.slot_ms) t.ids o
+  pub bounds : BoundsReleasedSchedules (instance_of t ws) (arrival_in t said.slot_ms) o
+  pub near : IsNearLeast (instance_of t ws) (arrival_in t said.slot_ms) o
+      (arrivals_cost ws (arrival_in t said.slot_ms) (completed_in t o))
+  pub picture : RunPicture
+  pub shows : IsRunPictureOf t ws o said picture
+  pub text_is : text ≡ run_picture_text picture
+
+-- the text is that of the report's picture
+abbrev pub DrawsReport : TableFacts → List ℕ → AnyReport → PictureSaid → List ℕ → Type 0
+DrawsReport t ws (Plan r) said text = DrawsPlan t ws r said text
+DrawsReport t ws (Online o) said text = DrawsRun t ws o said text
+
+-- the report of the files is right, and this is the text of its picture
+pub record Draws (told : Option Told) (said : PictureSaid) (text : List ℕ) : Type 0 where
+  pub judged : Judged told said IsRight
+  pub draws : DrawsReport judged.table judged.list judged.report said text
 
 -- The cause of a status that comes before anything is written.
 -- The shelf had and has these counts of faults, and told and tells these files.
 abbrev pub HasPictureCause : ℕ → ℕ → Option Told → Option Told → PictureSaid → PictureStatus → Type 0
-HasPictureCause before now old new said No = (reason : Reason) × Judged old said (verdict.No reason)
+HasPictureCause before now old new said No = Judged old said IsWrong
 HasPictureCause before now old new said (NoSlots first last) =
-    (j : Judged old said verdict.Yes) × HasNoPicture j.table j.report said (NoSlots first last)
+    (j : Judged old said IsRight) × HasNoPicture j.table j.report said (NoSlots first last)
 HasPictureCause before now old new said (TooManyBars bars) =
-    (j : Judged old said verdict.Yes) × HasNoPicture j.table j.report said (TooManyBars bars)
-HasPictureCause before now old new said (Ended s) = HasCauseInFiles IsBadAt before now old new (check_of said) s
+    (j : Judged old said IsRight) × HasNoPicture j.table j.report said (TooManyBars bars)
+HasPictureCause before now old new said (Ended s) = HasCauseInFiles IsAnyBadAt before now old new (check_of said) s
 HasPictureCause before now old new said s = ⊥
 
 -- there was a picture to be written

@@ -1,7 +1,7 @@
 -- The words of a command line that asks for a picture.
 use Rattle.std.specs.Prelude.{◌≡◌, ℕ, List, [], Option, Some, None, IfSome, codes, option_map}
 use Rattle.clap.specs.Words.{fault_of, first_of, matches_of}
-use Rattle.coflow_units.specs.declared.limits.TheConstants.{MAX_SLOT, MAX_UNIT}
+use Rattle.coflow_units.specs.declared.limits.TheConstants.{MAX_SLOT, MAX_SLOT_MS, MAX_UNIT}
 use Rattle.coflow_units.specs.declared.fabric.Side.{Side}
 use Rattle.coflow_units.specs.declared.fabric.Side.TheVariants.{Egress, Ingress}
 use Rattle.command_words.specs.Jobs.{IsFileName}
@@ -19,6 +19,7 @@ pub record PictureSaid : Type 0 where
   pub from : ℕ
   pub to : ℕ
   pub side : Side
+  pub slot_ms : ℕ
 
 -- What words that were read say.
 abbrev pub said_by : PictureWords → PictureSaid
@@ -30,6 +31,7 @@ said_by w = record {
   from = w.from;
   to = w.to;
   side = w.side;
+  slot_ms = w.slot_ms;
 }
 
 -- `in` is ingress, `out` is egress, and ingress is the default
@@ -47,6 +49,7 @@ pub record IsSaid (value : Text → Option Text) (said : PictureSaid) : Type 0 w
   pub from : IsSetting MAX_SLOT 1 (value (codes "from")) said.from
   pub to : IsSetting MAX_SLOT MAX_SLOT (value (codes "to")) said.to
   pub side : IsSide (value (codes "side")) said.side
+  pub slot_ms : IsSetting MAX_SLOT_MS 8 (value (codes "slot-ms")) said.slot_ms
   pub trace_fits : IsFileName said.trace
   pub report_fits : IsFileName said.report
   pub weights_fit : IfSome said.weights IsFileName

@@ -24,11 +24,12 @@ use std::alloc::Global;
 /// Draws the picture that the words ask for, and writes it to the sink.
 ///
 /// The words are `TRACE REPORT`, and options before, between or behind them, each at most once: `--weights FILE` and `--unit MEGABYTES` as for `sincronia check`;
-/// `--from SLOT` and `--to SLOT`, the first and the last slot that are shown, which are those of the schedule without them; and `--side in` or `--side out`, whose
-/// ports are shown, ingress ports without it.
+/// `--from SLOT` and `--to SLOT`, the first and the last slot that are shown, which are those of the schedule without them; `--side in` or `--side out`, whose
+/// ports are shown, ingress ports without it; and
+/// `--slot-ms MILLISECONDS`, from 1 to 2^20, by which the coflows of an online run arrive, 8 without it.
 ///
-/// The trace, the weights and the report are read in this order, and the first fault ends the job. The report is that of a plan, and it is checked as `sincronia check` does it.
-/// An online run has no picture: its text is bad at line 1.
+/// The trace, the weights and the report are read in this order, and the first fault ends the job. The report is that of a plan or of an online run, and it is checked as
+/// `sincronia check` does it. The picture of an online run shows no ports, so the side is nothing to it.
 ///
 /// The statuses are:
 /// - `Ok`: the picture was written whole.

@@ -1,27 +1,29 @@
 //! The picture of a report.
-ghost use Rattle.std.specs.Prelude.{◌≡◌, ◌≤◌, All, IfErr, IfOk, length, min};
+ghost use Rattle.std.specs.Prelude.{◌≡◌, ◌≤◌, All, IfErr, IfOk, OnOk, length, min};
 ghost use Rattle.coflow_units.specs.declared.limits.TheConstants.{MAX_SLOT, MAX_WEIGHT};
 ghost use Rattle.cert_check.specs.declared.verdict.Verdict.{Verdict};
 ghost use Rattle.cert_check.specs.Places.{NamesEach, coflows_in};
 ghost use Rattle.cert_check.specs.Reasons.{IsVerdict};
 ghost use Rattle.cert_check.specs.Sound.{IsSound};
 ghost use Rattle.flow_table.specs.Table.{instance_of};
-ghost use Rattle.picture.specs.declared.value.Picture.{Picture};
 ghost use Rattle.picture.specs.Layout.{IsDrawable};
 ghost use Rattle.picture.specs.Order.{IsPlaces};
-ghost use Rattle.picture.specs.Svg.{picture_text};
+ghost use Rattle.online_check.specs.AnyReport.{IsAnyReport};
+ghost use Rattle.online_check.specs.declared.any_report.AnyReport.TheVariants as any;
 ghost use Rattle.report_text.specs.Report.{IsReport};
 ghost use Rattle.schedule_model.specs.RunList.{slots_in};
-ghost use Rattle.picture_cli.specs.Picture.{HasNoPicture, HasVerdictCause, IsPictureOf};
+ghost use Rattle.picture_cli.specs.Picture.{DrawsPlan, DrawsReport, HasNoPicture, HasVerdictCause, IsPictureOf, IsRight};
 ghost use Rattle.picture_cli.specs.Words.{said_by};
 
+use crate::run_drawing::{check_run, draw_run};
 use crate::status::PictureStatus;
 use crate::value::PictureWords;
 use cert_check::{Named, Verdict, coflows_of};
 use coflow_units::{Items, NoMemory};
 use command_files::Input;
 use flow_table::Table;
-use online_check::verdict_on;
+use online_check::{AnyReport, verdict_on};
+use online_text::Online;
 use picture::{Picture, Window, bars_of, curve_of, places_of, write_picture};
 use report_text::{PlaceLine, Report};
 use run_list::Runs;
@@ -33,26 +35,73 @@ pub(crate) fn picture_of<'a>(
     alloc: Global,
     words: PictureWords<'a>,
     input: &Input,
+    report: &AnyReport,
+) -> Result<Vec<u8>, PictureStatus>
+    requires count { length input.now.weights ≡ length input.now.table.ids }
+    requires weights { All (λ w. w ≤ MAX_WEIGHT) input.now.weights }
+    requires report { IsAnyReport report.now }
+    ensures right { OnOk result
+        (IsRight input.now.table input.now.weights (said_by words.entry).slot_ms report.now) }
+    ensures drawn { IfOk result (λ text.
+        DrawsReport input.now.table input.now.weights report.now (said_by words.entry) text.items) }
+    ensures cause { IfErr result
+        (HasVerdictCause input.now.table input.now.weights report.now (said_by words.entry)) }
+{
+    match report {
+        AnyReport::Plan(plan) => plan_text(alloc, words, input, plan),
+        AnyReport::Online(online) => run_text(alloc, words, input, report, online),
+    }
+}
+
+/// The text of the picture of an online run, which is checked first.
+fn run_text<'a>(
+    alloc: Global,
+    words: PictureWords<'a>,
+    input: &Input,
+    report: &AnyReport,
+    online: &Online,
+) -> Result<Vec<u8>, PictureStatus>
+    requires count { length input.now.weights ≡ length input.now.table.ids }
+    requires weights { All (λ w. w ≤ MAX_WEIGHT) input.now.weights }
+    requires report { IsAnyReport report.now }
+    requires run { report.now ≡ any.Online online.now }
+    ensures right { OnOk result
+        (IsRight input.now.table input.now.weights (said_by words.entry).slot_ms report.now) }
+    ensures drawn { IfOk result (λ text.
+        DrawsReport input.now.table input.now.weights report.now (said_by words.entry) text.items) }
+    ensures cause { IfErr result
+        (HasVerdictCause input.now.table input.now.weights report.now (said_by words.entry)) }
+{
+    check_run(alloc, words, input, report)?;
+    let text = draw_run(alloc, words, input, online)?;
+    Ok(text)
+}
+
+/// The text of the picture of a plan, which is checked first.
+fn plan_text<'a>(
+    alloc: Global,
+    words: PictureWords<'a>,
+    input: &Input,
     report: &Report,
 ) -> Result<Vec<u8>, PictureStatus>
     requires count { length input.now.weights ≡ length input.now.table.ids }
     requires weights { All (λ w. w ≤ MAX_WEIGHT) input.now.weights }
     requires report { IsReport report.now }
+    ensures right { OnOk result
+        (IsVerdict (instance_of input.now.table input.now.weights) input.now.table.ids report.now Verdict.Yes) }
     ensures drawn { IfOk result (λ text.
-        IsVerdict (instance_of input.now.table input.now.weights) input.now.table.ids report.now Verdict.Yes ×
-        IsSound (instance_of input.now.table input.now.weights) input.now.table.ids report.now × (p : Picture) ×
-        IsPictureOf input.now.table input.now.weights report.now (said_by words.entry) p ×
-        (text.items ≡ picture_text p)) }
-    ensures cause { IfErr result (HasVerdictCause input.now.table input.now.weights report.now (said_by words.entry)) }
+        DrawsPlan input.now.table input.now.weights report.now (said_by words.entry) text.items) }
+    ensures cause { IfErr result
+        (HasVerdictCause input.now.table input.now.weights (any.Plan report.now) (said_by words.entry)) }
 {
     match verdict_on(alloc, &input.table, input.weights.as_slice(), report)? {
-        Verdict::Yes => draw_right(alloc, words, input, report),
+        Verdict::Yes => draw_plan(alloc, words, input, report),
         Verdict::No(_) => Err(PictureStatus::No),
     }
 }
 
-/// The text of the picture of a right report.
-fn draw_right<'a>(
+/// The text of the picture of a right plan.
+fn draw_plan<'a>(
     alloc: Global,
     words: PictureWords<'a>,
     input: &Input,
@@ -62,17 +111,16 @@ fn draw_right<'a>(
     requires weights { All (λ w. w ≤ MAX_WEIGHT) input.now.weights }
     requires report { IsReport report.now }
     requires right { IsSound (instance_of input.now.table input.now.weights) input.now.table.ids report.now }
-    ensures drawn { IfOk result (λ text. (p : Picture) ×
-        IsPictureOf input.now.table input.now.weights report.now (said_by words.entry) p ×
-        (text.items ≡ picture_text p)) }
-    ensures cause { IfErr result (HasNoPicture input.now.table report.now (said_by words.entry)) }
+    ensures drawn { IfOk result (λ text.
+        DrawsPlan input.now.table input.now.weights report.now (said_by words.entry) text.items) }
+    ensures cause { IfErr result (HasNoPicture input.now.table (any.Plan report.now) (said_by words.entry)) }
 {
     let picture = picture_in(alloc, words, input, report)?;
     let text = write_picture(alloc, &picture)?;
     Ok(text)
 }
 
-/// The picture of a right report.
+/// The picture of a right plan.
 fn picture_in<'a>(
     alloc: Global,
     words: PictureWords<'a>,
@@ -86,7 +134,7 @@ fn picture_in<'a>(
     ensures shows { IfOk result
         (IsPictureOf input.now.table input.now.weights report.now (said_by words.entry)) }
     ensures drawable { IfOk result IsDrawable }
-    ensures cause { IfErr result (HasNoPicture input.now.table report.now (said_by words.entry)) }
+    ensures cause { IfErr result (HasNoPicture input.now.table (any.Plan report.now) (said_by words.entry)) }
 {
     let runs = &report.runs;
     let window = window_in(words, runs);
@@ -131,7 +179,7 @@ fn window_in<'a>(words: PictureWords<'a>, runs: &Runs) -> Window
 }
 
 /// How many slots the runs have.
-fn slots_of(runs: &Runs) -> u64
+pub(crate) fn slots_of(runs: &Runs) -> u64
     requires { length (slots_in runs.now) ≤ MAX_SLOT }
     ensures { result ≡ length (slots_in runs.now) }
 {

@@ -7,6 +7,7 @@ mod files;
 pub mod laws;
 mod messages;
 mod parser;
+mod run_drawing;
 mod status;
 mod value;
 mod words;

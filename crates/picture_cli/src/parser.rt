@@ -35,7 +35,8 @@ fn picture_command<'a>(alloc: Global) -> Result<Command<'a>, AllocError>
     let command = with_arg(command, option_named(alloc, "unit"));
     let command = with_arg(command, option_named(alloc, "from"));
     let command = with_arg(command, option_named(alloc, "to"));
-    with_arg(command, option_named(alloc, "side"))
+    let command = with_arg(command, option_named(alloc, "side"));
+    with_arg(command, option_named(alloc, "slot-ms"))
 }
 
 fn command_with_names<'a>(alloc: Global) -> Result<Command<'a>, AllocError>

@@ -9,7 +9,7 @@ ghost use Rattle.picture_cli.specs.Words.{IsPictureWords, IsSaid, IsSide, Pictur
 use crate::parser::matches_of;
 use crate::value::PictureWords;
 use clap::ArgMatches;
-use coflow_units::{MAX_SLOT, Side};
+use coflow_units::{MAX_SLOT, MAX_SLOT_MS, Side};
 use command_words::{WordsFault, is_file_name, setting_of, unit_of};
 use std::alloc::Global;
 
@@ -50,6 +50,7 @@ fn words_of<'a>(matches: &ArgMatches<'a>) -> Option<PictureWords<'a>>
     let from = setting_of(matches.get_str("from"), MAX_SLOT, 1)?;
     let to = setting_of(matches.get_str("to"), MAX_SLOT, MAX_SLOT)?;
     let side = side_of(matches.get_str("side"))?;
+    let slot_ms = setting_of(matches.get_str("slot-ms"), MAX_SLOT_MS, 8)?;
     Some(PictureWords {
         trace,
         report,
@@ -58,6 +59,7 @@ fn words_of<'a>(matches: &ArgMatches<'a>) -> Option<PictureWords<'a>>
         from,
         to,
         side,
+        slot_ms,
     })
 }
 

@@ -77,7 +77,7 @@ returns-in_default-clause-beginning g c = λ count e.
       record {
         text = text;
         draws = draws_by (g.H.Shelf.told c.args.shelf.now) (said_by c.in-Ok.words) files.input.table files.input.weights files.report text ensures.input ensures.report
-            c.in-Ok-drawn.ensures.drawn;
+            c.in-Ok-drawn.ensures.right c.in-Ok-drawn.ensures.drawn;
         written = begun _ (g.K.Sink.taken c.args.out.now) (g.K.Sink.taken c.write_all.new.sink) text c.deref.result.now _ c.deref.ensures.value c.in_default.ensures.taken;
       },
     )
@@ -94,7 +94,7 @@ returns-clause-picture g c = λ e.
       record {
         text = text;
         draws = draws_by (g.H.Shelf.told c.args.shelf.now) (said_by c.in-Ok.words) files.input.table files.input.weights files.report text ensures.input ensures.report
-            c.in-Ok-drawn.ensures.drawn;
+            c.in-Ok-drawn.ensures.right c.in-Ok-drawn.ensures.drawn;
         written = appended _ (g.K.Sink.taken c.args.out.now) (g.K.Sink.taken c.write_all.new.sink) text c.deref.result.now c.in-Ok-write_all.field-0 c.deref.ensures.value
             c.in-Ok-write_all.ensures.taken;
       },
@@ -107,7 +107,7 @@ returns-clause-complete g c = λ said answer is call shelf sink.
     let told = g.H.Shelf.told c.args.shelf.now in
     let text = c.in-Ok-drawn.text.items in
     inl (ends_drawn told (said_by c.in-Ok.words) said text answer (one_words (texts c.args.words.now) (said_by c.in-Ok.words) said c.in-Ok.ensures.said is)
-    (draws_by told (said_by c.in-Ok.words) files.input.table files.input.weights files.report text ensures.input ensures.report c.in-Ok-drawn.ensures.drawn) call)
+    (draws_by told (said_by c.in-Ok.words) files.input.table files.input.weights files.report text ensures.input ensures.report c.in-Ok-drawn.ensures.right c.in-Ok-drawn.ensures.drawn) call)
 
 pub returns-clause-in_turn : goal.returns-clause-in_turn
 returns-clause-in_turn g c = λ said is.
@@ -116,3 +116,20 @@ returns-clause-in_turn g c = λ said is.
     subst (λ (x : PictureSaid). OfBoth old new (FilesInTurn (check_of x) status.Ok))
     (one_words (texts c.args.words.now) (said_by c.in-Ok.words) said c.in-Ok.ensures.said is)
     (past_in_turn old new (said_by c.in-Ok.words) status.Ok (λ f. f) c.in-Ok-read_files.ensures.good c.in-Ok-read_files.ensures.read_out)
+
+-- ---- how far the files were read
+
+pub returns-in-Err-clause-in_turn : goal.returns-in-Err-clause-in_turn
+returns-in-Err-clause-in_turn g c = λ said is.
+    subst (λ (x : PictureSaid). OfBoth (g.H.Shelf.told c.args.shelf.now) (g.H.Shelf.told c.read_files.new.shelf) (FilesInTurn (check_of x) c.in-Err.status))
+    (one_words (texts c.args.words.now) (said_by c.in-Ok.words) said c.in-Ok.ensures.said is) c.in-Err.ensures.in_turn
+
+pub returns-in_default-clause-read_out : goal.returns-in_default-clause-read_out
+returns-in_default-clause-read_out g c = λ said is past.
+    subst (λ (x : PictureSaid). OfBoth (g.H.Shelf.told c.args.shelf.now) (g.H.Shelf.told c.read_files.new.shelf) (ReadsOut (check_of x).job (check_of x)))
+    (one_words (texts c.args.words.now) (said_by c.in-Ok.words) said c.in-Ok.ensures.said is) c.in-Ok-read_files.ensures.read_out
+
+pub returns-clause-read_out : goal.returns-clause-read_out
+returns-clause-read_out g c = λ said is past.
+    subst (λ (x : PictureSaid). OfBoth (g.H.Shelf.told c.args.shelf.now) (g.H.Shelf.told c.read_files.new.shelf) (ReadsOut (check_of x).job (check_of x)))
+    (one_words (texts c.args.words.now) (said_by c.in-Ok.words) said c.in-Ok.ensures.said is) c.in-Ok-read_files.ensures.read_out

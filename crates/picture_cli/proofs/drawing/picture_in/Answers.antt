@@ -10,8 +10,7 @@ use Rattle.picture.specs.Bars.{bar_count}
 use Rattle.picture.specs.Order.{IsPlaces}
 use Rattle.report_text.specs.declared.value.PlaceLine.{PlaceLine}
 use Rattle.picture_cli.specs.Words.{said_by}
-use Rattle.picture_cli.proofs.PictureFacts.{bars_along, bars_inside, bound_small, clear_along, cost_small, curve_along, ends_along}
-use Rattle.picture_cli.proofs.PictureFacts.{names_along, names_flows, slots_short, weights_small, window_same}
+use Rattle.picture_cli.proofs.PictureFacts.{bars_along, bars_inside, bound_small, clear_along, cost_small, curve_along, ends_along, names_along, names_flows, slots_short, weights_small, window_same}
 use Rattle.picture_cli.proofs.drawing.picture_in.Goals as goal
 
 pub window_in-window-requires : goal.window_in-window-requires

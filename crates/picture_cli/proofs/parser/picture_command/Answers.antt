@@ -9,4 +9,5 @@ returns c =
     let two = c.with_arg-command-2.ensures.arg _ one in
     let three = c.with_arg-command-3.ensures.arg _ two in
     let four = c.with_arg-command-4.ensures.arg _ three in
-    subst (λ (a : App). IfOk c.with_arg.result (λ made. app_of made ≡ a)) (cc) (c.with_arg.ensures.arg _ four)
+    let five = c.with_arg-command-5.ensures.arg _ four in
+    subst (λ (a : App). IfOk c.with_arg.result (λ made. app_of made ≡ a)) (cc) (c.with_arg.ensures.arg _ five)
