@@ -22,10 +22,11 @@ use Rattle.picture.specs.declared.run_value.RunPicture.{RunPicture}
 use Rattle.picture.specs.Run.{IsRunOf}
 use Rattle.picture.specs.RunSvg.{run_picture_text}
 use Rattle.picture.specs.Title.{hundredths}
+use Rattle.release_bound.specs.Best.{arrivals_cost}
 use Rattle.release_bound.specs.Release.{IsReleased}
 use Rattle.schedule_model.proofs.CostSums.{parts_small}
 use Rattle.schedule_model.specs.RunList.{slots_in}
-use Rattle.picture_cli.specs.Picture.{DrawsRun, IsNearLeast, IsRunPictureOf, arrival_in, arrivals_cost, completed_in}
+use Rattle.picture_cli.specs.Picture.{DrawsRun, IsNearLeast, IsRunPictureOf, arrival_in, completed_in}
 use Rattle.picture_cli.specs.Words.{PictureSaid}
 
 -- no schedule that serves nobody before its arrival costs less than the total of a right online run
@@ -44,7 +45,7 @@ pub draws_run : OnlineLaw → (t : TableFacts) (ws : List ℕ) (o : Online) (sai
 draws_run law t ws o said text p sound shows same = record {
   right = sound;
   bounds = λ slots released. law (instance_of t ws) (arrival_in t said.slot_ms) t.ids o slots sound released;
-  near = near_least law (instance_of t ws) (arrival_in t said.slot_ms) t.ids o (arrivals_cost ws (arrival_in t said.slot_ms) (completed_in t o)) sound;
+  near = near_least law (instance_of t ws) (arrival_in t said.slot_ms) t.ids o (arrivals_cost (instance_of t ws) (arrival_in t said.slot_ms)) sound;
   picture = p;
   shows = shows;
   text_is = same;
@@ -115,12 +116,11 @@ pub numbers_as : (numbers all places known picked : List ℕ) → picked ≡ map
 numbers_as numbers all places known picked is same_numbers same_places =
     is ∙ ap (λ (xs : List ℕ). map (slice_index xs) places) same_numbers ∙ ap (λ (xs : List ℕ). map (slice_index all) xs) same_places
 
-pub cost_as : (ws weights times all places known : List ℕ) (n : ℕ) → n ≡ arrivals_cost ws (slice_index times) places →
-    ws ≡ weights → times ≡ all → places ≡ known → n ≡ arrivals_cost weights (slice_index all) known
-cost_as ws weights times all places known n is same_weights same_times same_places =
-    is ∙ ap (λ (xs : List ℕ). arrivals_cost xs (slice_index times) places) same_weights ∙
-    ap (λ (xs : List ℕ). arrivals_cost weights (slice_index xs) places) same_times ∙
-    ap (λ (xs : List ℕ). arrivals_cost weights (slice_index all) xs) same_places
+pub cost_as : (t : TableFacts) (ws weights times all : List ℕ) (n : ℕ) → n ≡ arrivals_cost (instance_of t ws) (slice_index times) → ws ≡ weights → times ≡ all →
+    n ≡ arrivals_cost (instance_of t weights) (slice_index all)
+cost_as t ws weights times all n is same_weights same_times =
+    is ∙ ap (λ (xs : List ℕ). arrivals_cost (instance_of t xs) (slice_index times)) same_weights ∙
+    ap (λ (xs : List ℕ). arrivals_cost (instance_of t weights) (slice_index xs)) same_times
 
 -- what is known of each completed coflow is known of few
 pub few_of : (t : TableFacts) (o : Online) (f : ℕ → ℕ) (xs : List ℕ) → IsTable t → xs ≡ map f (completed_in t o) → length xs ≤ MAX_COFLOWS

@@ -1,5 +1,5 @@
 -- The picture of a report.
-use Rattle.std.specs.Prelude.{◌≡◌, ℕ, ◌*◌, ◌-◌, ◌<◌, ◌≤◌, ◌==◌, List, Option, filter, length, map, min, not, slice_index, sum, sum_by}
+use Rattle.std.specs.Prelude.{◌≡◌, ℕ, ◌*◌, ◌-◌, ◌<◌, ◌≤◌, ◌==◌, List, Option, filter, length, map, min, not, slice_index, sum}
 use Rattle.std.specs.List.{range_with_len}
 use Rattle.coflow_units.specs.Completion.{completion, cost}
 use Rattle.coflow_units.specs.Flows.{Instance}
@@ -35,6 +35,7 @@ use Rattle.online_check.specs.Reasons.{IsFirstOnlineReason}
 use Rattle.online_check.specs.Sound.{BoundsReleasedSchedules, IsSoundOnline}
 use Rattle.online_text.specs.declared.value.Epoch.{Epoch}
 use Rattle.online_text.specs.declared.value.Online.{Online as Run}
+use Rattle.release_bound.specs.Best.{arrivals_cost}
 use Rattle.release_bound.specs.Release.{IsReleased}
 use Rattle.report_text.specs.declared.value.Report.{Report}
 use Rattle.schedule_model.specs.RunList.{slots_in}
@@ -102,10 +103,6 @@ arrival_in t slot_ms = slice_index (arrivals_in t slot_ms)
 abbrev pub completed_in : TableFacts → Run → List ℕ
 completed_in t o = filter (λ c. not (slice_index (slots_done o.done) c == 0)) (range_with_len 0 (length t.ids))
 
--- what the arrivals of these coflows cost any schedule: the sum of weight times arrival
-abbrev pub arrivals_cost : List ℕ → (ℕ → ℕ) → List ℕ → ℕ
-arrivals_cost ws arrival coflows = sum_by (λ c. slice_index ws c * arrival c) coflows
-
 -- The picture shows the online run: a span with a slot, the arrivals and the completions of the coflows that have units,
 -- the publishings, and the stated cost and total with what the arrivals cost.
 pub record IsRunPictureOf (t : TableFacts) (ws : List ℕ) (o : Run) (said : PictureSaid) (p : RunPicture) : Type 0
@@ -117,7 +114,7 @@ pub record IsRunPictureOf (t : TableFacts) (ws : List ℕ) (o : Run) (said : Pic
         (map (slice_index (slots_done o.done)) (completed_in t o)) (map (λ (e : Epoch). e.time) o.epochs) p
     pub cost_is : p.costs.cost ≡ o.cost
     pub total_is : p.costs.total ≡ o.total
-    pub arrivals_are : p.costs.arrivals ≡ arrivals_cost ws (arrival_in t said.slot_ms) (completed_in t o)
+    pub arrivals_are : p.costs.arrivals ≡ arrivals_cost (instance_of t ws) (arrival_in t said.slot_ms)
 
 -- the report is that of a plan
 abbrev pub IsPlan : AnyReport → Type 0
@@ -201,7 +198,7 @@ pub record DrawsRun (t : TableFacts) (ws : List ℕ) (o : Run) (said : PictureSa
   pub right : IsSoundOnline (instance_of t ws) (arrival_in t said.slot_ms) t.ids o
   pub bounds : BoundsReleasedSchedules (instance_of t ws) (arrival_in t said.slot_ms) o
   pub near : IsNearLeast (instance_of t ws) (arrival_in t said.slot_ms) o
-      (arrivals_cost ws (arrival_in t said.slot_ms) (completed_in t o))
+      (arrivals_cost (instance_of t ws) (arrival_in t said.slot_ms))
   pub picture : RunPicture
   pub shows : IsRunPictureOf t ws o said picture
   pub text_is : text ≡ run_picture_text picture

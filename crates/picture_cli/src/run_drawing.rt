@@ -11,7 +11,7 @@ ghost use Rattle.online_text.specs.Online.{IsOnline};
 ghost use Rattle.online_text.specs.declared.value.Epoch.{Epoch};
 ghost use Rattle.picture.specs.Run.{IsRunDrawable};
 ghost use Rattle.schedule_model.specs.RunList.{slots_in};
-ghost use Rattle.picture_cli.specs.Picture.{DrawsRun, HasNoPicture, HasVerdictCause, IsRight, IsRun, IsRunPictureOf, arrival_in, arrivals_cost};
+ghost use Rattle.picture_cli.specs.Picture.{DrawsRun, HasNoPicture, HasVerdictCause, IsRight, IsRun, IsRunPictureOf, arrival_in};
 ghost use Rattle.picture_cli.specs.Words.{said_by};
 
 use crate::drawing::slots_of;
@@ -23,6 +23,7 @@ use online_check::laws::yes_bounds_released_schedules;
 use online_check::{AnyReport, arrivals_of, judge};
 use online_text::{DoneLine, Epoch, Online};
 use picture::{RunCosts, RunPicture, Span, run_picture_of, write_run_picture};
+use release_bound::arrivals_cost;
 use run_list::Runs;
 use std::alloc::Global;
 
@@ -108,7 +109,7 @@ fn run_in<'a>(
     let costs = RunCosts {
         cost: online.cost,
         total: online.total,
-        arrivals: arrivals_cost(input.weights.as_slice(), &times, &completed),
+        arrivals: arrivals_cost(&input.table, input.weights.as_slice(), &times),
     };
     let picture = run_picture_of(alloc, span, &arrivals, &ends, &published, costs)?;
     Ok(picture)
@@ -124,30 +125,6 @@ fn span_in<'a>(words: PictureWords<'a>, runs: &Runs) -> Span
         first: words.from,
         last: words.to.min(slots_of(runs)),
     }
-}
-
-/// The sum of weight times arrival, of these coflows.
-fn arrivals_cost(weights: &[u64], arrivals: &[u64], coflows: &[usize]) -> u128
-    requires weights { All (λ w. w ≤ MAX_WEIGHT) weights.now }
-    requires arrivals { All (λ a. a ≤ MAX_ARRIVAL) arrivals.now }
-    requires few { length coflows.now ≤ MAX_COFLOWS }
-    ensures { result ≡ arrivals_cost weights.now (slice_index arrivals.now) coflows.now }
-{
-    let mut total: u128 = 0;
-    for coflow in coflows {
-        total += arrival_cost(weights, arrivals, *coflow);
-    }
-    total
-}
-
-/// Weight times arrival of a coflow.
-fn arrival_cost(weights: &[u64], arrivals: &[u64], coflow: usize) -> u128
-    requires weights { All (λ w. w ≤ MAX_WEIGHT) weights.now }
-    requires arrivals { All (λ a. a ≤ MAX_ARRIVAL) arrivals.now }
-    ensures cost { result ≡ slice_index weights.now coflow * slice_index arrivals.now coflow }
-    ensures small { result ≤ 2 ^ 64 }
-{
-    u128::from(number_at(weights, coflow)) * u128::from(number_at(arrivals, coflow))
 }
 
 /// The slots of lines of completions.
