@@ -1,5 +1,5 @@
 #!/usr/bin/env python3
-"""Looks up each name that the pages cite: calls, clauses and definitions of docs/PROVED.md and docs/HALL.md, edits of docs/PLANTED.md, functions of files, and the files that
+"""Looks up each name that the pages cite: calls, clauses and definitions of docs/PROVED.md and docs/HALL.md, functions of files, and the files that
 the pages link to. It also looks whether docs/PROVED.md names each clause of the top call, whether docs/ARCHITECTURE.md has a row for each crate, and whether docs/LIBRARY.md shows code and output of the
 examples as they stand.
 
@@ -12,9 +12,6 @@ clauses of the heading's first crate. A clause is named as `call: clause`, as `c
 
 docs/HALL.md, docs/LIBRARY.md and docs/PROVED.md: the last cells of tables whose last column is 'said by' name clauses or definitions of any crate. In docs/HALL.md the sections '## What a hall promises ..' have such
 tables.
-
-docs/PLANTED.md: an edit is named as edit `NAME`. Its crate is the one of the row's first cell, else of the heading '### ..', and edit `NAME` of `CRATE` names another one. It stands in the crate's
-must-fail folder, or in the folder of the crate in bugs.
 
 Functions stand behind their file, as `crate/src/file.rt`, `function`.
 """
@@ -185,27 +182,6 @@ def hall_sections():
         yield f"{page}: names in the section '{title}'", "| said by |" in read(page).partition(title)[2].split("\n## ")[0]
 
 
-def has_edit(crate, name):
-    return any(os.path.isfile(os.path.join(TOP, *folder, f"{name}.edit")) for folder in (("crates", crate, "must-fail"), ("bugs", crate)))
-
-
-def planted_names():
-    """Each edit that docs/PLANTED.md cites, and whether it is there."""
-    page = "docs/PLANTED.md"
-    known, section = all_crates(), None
-    for line in read(page).split("\n"):
-        if line.startswith("#"):
-            names = re.findall(r"`(\w+)`", line) if line.startswith("### ") else []
-            section = names[0] if names else None
-            if section:
-                yield f"{page}: the crate {section}", section in known
-        row = re.match(r"\|\s*`(\w+)`\s*\|", line)
-        crate = row.group(1) if row and row.group(1) in known else section
-        for names, other in re.findall(r"\bedits? (`\w+`(?:(?:, | and )`\w+`)*)(?: of `(\w+)`)?", line) if crate else []:
-            for name in re.findall(r"`(\w+)`", names):
-                yield f"{page}: {other or crate}: edit {name}", has_edit(other or crate, name)
-
-
 def pages():
     return ["README.md", *(f"docs/{it}" for it in sorted(os.listdir(os.path.join(TOP, "docs"))) if it.endswith(".md"))]
 
@@ -265,7 +241,7 @@ def main():
         return 0
     if sys.argv[1:]:
         sys.exit(__doc__)
-    results = [*proved_names(), *top_told(), *said_names(), *hall_sections(), *planted_names(), *file_names(), *linked_files(), *crates_told(), *shown_examples()]
+    results = [*proved_names(), *top_told(), *said_names(), *hall_sections(), *file_names(), *linked_files(), *crates_told(), *shown_examples()]
     for name, well in results:
         if not well:
             print(f"not there: {name}")
