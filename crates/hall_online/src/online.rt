@@ -18,20 +18,25 @@ use flow_table::Table;
 use online_runs::{Progress, told};
 use online_text::Online;
 use outside::Wire;
+use release_bound::{Threshold, released_by};
 use std::alloc::Global;
 use std::sync::Wait;
 use std::thread::Threads;
 
-/// Serves the coflows of a table as they arrive. A coflow joins once it has arrived. At each multiple of `every` slots, from 1 to 2^40, where somebody owes a unit, those who owe nothing leave and the
-/// others are ordered anew. Between these times runs are served, each as long as it may be up to the next of them, the next arrival, or the end of a flow. Where nobody owes anything, slots pass up
-/// to the next arrival. There is one weight for each coflow, from 1 to 2^32, and one arrival, a time in slots of at most 2^32. So many agents beside each other, at most one a port and started once
-/// for all runs, send the units on the wires, one for each ingress port, and further wires are left alone. While it runs the agents have the wires, and at every answer the vector has them again, in
-/// their order.
+/// Serves the coflows of a table as they arrive. A coflow joins once it has arrived. At each multiple of `every` slots,
+/// from 1 to 2^40, where somebody owes a unit, those who owe nothing leave and the others are ordered anew. Between
+/// these times runs are served, each as long as it may be up to the next of them, the next arrival, or the end of a
+/// flow. Where nobody owes anything, slots pass up to the next arrival. There is one weight for each coflow, from 1 to
+/// 2^32, and one arrival, a time in slots of at most 2^32. So many agents beside each other, at most one a port and
+/// started once for all runs, send the units on the wires, one for each ingress port, and further wires are left alone.
+/// While it runs the agents have the wires, and at every answer the vector has them again, in their order.
 ///
-/// The orders are made by bottleneck, select, scale, iterate (Sincronia: Agarwal, Rajakrishnan, Narayan, Agarwal, Shmoys and Vahdat, SIGCOMM 2018); the rule of epochs and arrivals is this
-/// project's. `WireFault` comes only where the count of that port's wire rose in this call. It is the least port at which a unit of the last run is missing, and no further run is opened after it.
-/// `TooMany` comes exactly where more than 8192 orders would be published, if no fault and no want of memory comes before. `NoMemory` is want of memory.
-/// At every answer what was sent are units of one online run, none twice.
+/// The orders are made by bottleneck, select, scale, iterate (Sincronia: Agarwal, Rajakrishnan, Narayan, Agarwal,
+/// Shmoys and Vahdat, SIGCOMM 2018); the rule of epochs and arrivals is this project's. `WireFault` comes only where
+/// the count of that port's wire rose in this call. It is the least port at which a unit of the last run is missing,
+/// and no further run is opened after it. `TooMany` comes exactly where more than 8192 orders would be published, if no
+/// fault and no want of memory comes before. `NoMemory` is want of memory. At every answer what was sent are units of
+/// one online run, none twice.
 pub fn serve_online<R: Threads + Wait + Sync, W: Wire + Send>(
     alloc: Global,
     rt: &R,
@@ -66,7 +71,13 @@ pub fn serve_online<R: Threads + Wait + Sync, W: Wire + Send>(
         PublishesTooMany (online_opening table.now weights.now) arrivals.now every count }
 {
     let progress = served(alloc, rt, table, weights, arrivals, every, agents, wires)?;
-    let online = told(alloc, table, weights, arrivals, progress)?;
+    let released = released_by(alloc, table, weights, arrivals, Threshold::One)?;
+    let Progress {
+        epochs,
+        schedule,
+        ..
+    } = progress;
+    let online = told(alloc, table, weights, &released, epochs, schedule)?;
     Ok(online)
 }
 

@@ -1,23 +1,22 @@
 -- How many entries an online run has: one for each coflow that joined, one for each that left, one for each publishing,
 -- and two for each run. A run ends a flow, or it ends where a coflow arrives, or where an epoch starts, and then an
 -- order is published before the next run.
-use Rattle.std.proofs.Common.{◌≡◌, ◌≢◌, ℕ, ◌+◌, ◌*◌, ◌-◌, ◌%◌, ◌<◌, ◌≤◌, ◌⊎◌, inl, inr, Bool, true, false, List, [], ◌∷◌, ◌++◌, get_or, length, map, min, refl, sym, ap}
-use Rattle.std.proofs.Common.{subst, ◌∙◌, arith, cond, Contains, Some, append-nil}
-use Rattle.std.specs.Prelude.{◌==◌, count_by, nat_le, slice_index, slice_set, sum_by}
+use Rattle.std.proofs.Common.{◌≡◌, ◌≢◌, ℕ, ◌+◌, ◌*◌, ◌-◌, ◌%◌, ◌<◌, ◌≤◌, ◌⊎◌, inl, inr, Bool, true, false, List, [], ◌++◌, get_or, length, min, refl, sym, ap}
+use Rattle.std.proofs.Common.{subst, ◌∙◌, arith, cond, Contains, append-nil}
+use Rattle.std.specs.Prelude.{◌==◌, count_by, nat_le, slice_index, slice_set}
 use Rattle.std.specs.List.{range_with_len}
-use Rattle.std.proofs.lemmas.Bool.{cases_eq, cases_lt, eq-eqb, le-leb, lt-leb, ne_eqb, true≢false}
+use Rattle.std.proofs.lemmas.Bool.{cases_eq, cases_lt, eq-eqb, le-leb, lt-leb, ne_eqb}
 use Rattle.std.proofs.lemmas.List.{get_or-set_other, get_or-set_same, length-append}
 use Rattle.std.proofs.lemmas.List.Elements.{All-contains}
 use Rattle.std.proofs.lemmas.List.Sums.{count_by-le-length}
 use Rattle.std.proofs.lemmas.List.FromFn.{length-range_with_len}
-use Rattle.coflow_units.specs.declared.limits.TheConstants.{MAX_PUBLISHINGS, MAX_UNITS}
-use Rattle.coflow_units.specs.Flows.{coflow_of, units_of}
+use Rattle.coflow_units.specs.Flows.{coflow_of}
 use Rattle.coflow_units.proofs.Lists.{number_in}
 use Rattle.coflow_units.proofs.Numbers.{zero_or_more}
-use Rattle.coflow_units.proofs.Sums.{any_in, sum_less, sum_mono, sum_same}
+use Rattle.coflow_units.proofs.Sums.{sum_less, sum_mono}
 use Rattle.epochs.specs.declared.action.Action.TheVariants.{Publish as PublishOrder, Register as Join, Run as Serve, Skip as Pass, Withdraw as Leave}
-use Rattle.epochs.specs.Choice.{IsDue, IsFirstAction, IsReady}
-use Rattle.epochs.specs.Course.{after, arrival_of, Course, IsArrival, IsEpochStart, is_marked, IsNextStop, IsPresent, IsStop, SomeOwes}
+use Rattle.epochs.specs.Choice.{IsDue}
+use Rattle.epochs.specs.Course.{after, arrival_of, Course, IsArrival, IsEpochStart, is_marked, IsNextStop, SomeOwes}
 use Rattle.journal.specs.declared.command.Entry.{Entry}
 use Rattle.journal.specs.declared.opening.Opening.{Opening}
 use Rattle.journal.specs.Closed.{LeavesSlots}
@@ -27,14 +26,13 @@ use Rattle.journal.specs.Fold.{state_of}
 use Rattle.journal.specs.Journal.{IsLegal}
 use Rattle.journal.specs.Moves.{SkipsSlots}
 use Rattle.journal.specs.Runs.{granted}
-use Rattle.journal.specs.State.{owed, slot_end, State}
+use Rattle.journal.specs.State.{owed, slot_end}
 use Rattle.journal.proofs.Counting.{opened_grant}
 use Rattle.journal.proofs.Ending.{few_flows}
 use Rattle.journal.proofs.ServingRuns.{ends_a_flow}
 use Rattle.online_runs.specs.Deeds.{owed_after, time_of}
-use Rattle.epochs.proofs.Actions.{run_not_due}
 use Rattle.online_runs.proofs.Marks.{marked, one_marked}
-use Rattle.online_runs.proofs.Owed.{owes_at, owes_by_flow, same_owes}
+use Rattle.online_runs.proofs.Owed.{owes_by_flow, same_owes}
 use Rattle.online_runs.proofs.Shapes.{drive_of, run_entries, run_is_driven}
 use Rattle.online_runs.proofs.Standing.{below, few_slots, next_some, run_goes, range_later, runs_more, some_owing, Stands}
 use Rattle.online_runs.proofs.Times.{granted_present, KeepsTime, run_owed, run_time, same_owed, same_time, skip_time}

@@ -1,5 +1,5 @@
 -- There is one online run: the actions leave no choice, and the commands determine the replies.
-use Rattle.std.proofs.Common.{◌≡◌, ℕ, ◌+◌, ◌<◌, ◌≤◌, ◌⊎◌, inl, inr, true, false, true≢false, List, [], ◌∷◌, ◌++◌, get_or, length, map, refl, sym, ap, subst, ◌∙◌, arith, suc}
+use Rattle.std.proofs.Common.{◌≡◌, ℕ, ◌<◌, ◌≤◌, ◌⊎◌, inl, inr, true, false, true≢false, List, [], ◌∷◌, ◌++◌, get_or, length, map, refl, sym, ap, subst, ◌∙◌, arith}
 use Rattle.std.proofs.Common.{append-nil, append_assoc}
 use Rattle.std.proofs.lemmas.Bool.{cases_lt}
 use Rattle.std.proofs.lemmas.List.{append_cancel_left, get_or_append_left, get_or_past, length-append, map-append}
@@ -8,7 +8,6 @@ use Rattle.epochs.specs.declared.action.Action.{Action}
 use Rattle.epochs.specs.declared.action.Action.TheVariants.{End, TooMany}
 use Rattle.epochs.specs.Choice.{IsFirstAction, place}
 use Rattle.epochs.specs.Course.{after, at_first, Course}
-use Rattle.journal.specs.declared.command.Command.{Command}
 use Rattle.journal.specs.declared.command.Entry.{Entry}
 use Rattle.journal.specs.declared.opening.Opening.{Opening}
 use Rattle.journal.specs.Answer.{in_range}

@@ -1,10 +1,10 @@
 -- The lines of a released certificate.
 use Rattle.std.proofs.Common.{◌≡◌, ℕ, ◌-◌, ◌<◌, List, get_or, length, map, reverse, sym, ap, subst, ◌∙◌, arith}
-use Rattle.std.specs.Prelude.{All, slice_index}
+use Rattle.std.specs.Prelude.{All}
 use Rattle.std.proofs.lemmas.List.{get_or-reverse, length-reverse, reverse-reverse}
 use Rattle.flow_table.specs.Table.{instance_of, TableFacts}
 use Rattle.release_bound.specs.declared.place.ReleasePlace.{ReleasePlace}
-use Rattle.release_bound.specs.ReleaseOrder.{IsReleasedOrdering}
+use Rattle.release_bound.specs.Release.{IsReleasedCertificate}
 use Rattle.online_runs.specs.Value.{release_line}
 use Rattle.online_runs.proofs.Right.{places_within}
 
@@ -18,10 +18,9 @@ all_back P xs all k d lt =
     back : (n k : ℕ) → k < n → n - 1 - (n - 1 - k) ≡ k
     back n k lt = omega (arith, lt)
 
-pub all_within : (t : TableFacts) (weights arrivals : List ℕ) (places : List ReleasePlace) →
-    IsReleasedOrdering (instance_of t weights) (slice_index arrivals) (reverse places) → All (λ (r : ReleasePlace). r.coflow < length t.ids) places
-all_within t weights arrivals places order =
-    all_back (λ (r : ReleasePlace). r.coflow < length t.ids) places (places_within t weights (reverse places) order.certificate)
+pub all_within : (t : TableFacts) (weights : List ℕ) (places : List ReleasePlace) → IsReleasedCertificate (instance_of t weights) (reverse places) →
+    All (λ (r : ReleasePlace). r.coflow < length t.ids) places
+all_within t weights places certificate = all_back (λ (r : ReleasePlace). r.coflow < length t.ids) places (places_within t weights (reverse places) certificate)
 
 pub lines_turned : (t : TableFacts) (places : List ReleasePlace) → map (release_line t.ids) places ≡ map (release_line t.ids) (reverse (reverse places))
 lines_turned t places = ap (map (release_line t.ids)) (sym (reverse-reverse places))

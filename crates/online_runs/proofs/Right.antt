@@ -1,5 +1,5 @@
 -- What an online run says is right, as the checker of online runs defines it.
-use Rattle.std.proofs.Common.{◌≡◌, ℕ, ◌+◌, ◌-◌, ◌<◌, ◌≤◌, List, [], ◌∷◌, ◌++◌, get_or, length, map, reverse, refl, sym, ap, subst, ◌∙◌, arith, zero, suc, Contains}
+use Rattle.std.proofs.Common.{◌≡◌, ℕ, ◌-◌, ◌<◌, ◌≤◌, List, [], ◌∷◌, get_or, length, map, reverse, refl, sym, ap, subst, ◌∙◌, arith, zero, suc, Contains}
 use Rattle.std.specs.Prelude.{All, slice_index}
 use Rattle.std.specs.List.{range_with_len}
 use Rattle.std.proofs.lemmas.List.{ext_get_or, get_or-map, get_or-reverse, length-map, length-reverse, reverse-reverse}
@@ -17,7 +17,6 @@ use Rattle.dual_cert.proofs.DualLaw.{bound_law}
 use Rattle.flow_table.specs.Table.{instance_of, TableFacts}
 use Rattle.release_bound.specs.declared.place.ReleasePlace.{ReleasePlace}
 use Rattle.release_bound.specs.Release.{entries_of, IsReleased, IsReleasedCertificate, IsReleasedFeasible, released_total}
-use Rattle.release_bound.specs.ReleaseOrder.{IsReleasedOrdering}
 use Rattle.schedule_model.specs.RunList.{slots_in}
 use Rattle.online_text.specs.declared.value.DoneLine.{DoneLine}
 use Rattle.online_text.specs.declared.value.Online.{Online}
@@ -75,7 +74,7 @@ places_within t weights places h k d lt =
       number_below 0 (length t.ids) c (All-contains (Contains (range_with_len 0 (length t.ids))) (front (entries_of places)) c h.coflow (front_at places k d lt)),
     )
 
-all_reversed : {X : Type 0} (P : X → Type 0) (xs : List X) → All P xs → All P (reverse xs)
+pub all_reversed : {X : Type 0} (P : X → Type 0) (xs : List X) → All P xs → All P (reverse xs)
 all_reversed P xs all k d lt =
     let n = length xs - 1 - k in
     let inside : k < length xs = omega (arith, lt, length-reverse xs) in
@@ -83,7 +82,7 @@ all_reversed P xs all k d lt =
 
 -- ---- the lines of completions
 
-ids_again : (o : Opening) (slots : List (List ℕ)) → ids_done (done_lines o slots) ≡ o.table.ids
+pub ids_again : (o : Opening) (slots : List (List ℕ)) → ids_done (done_lines o slots) ≡ o.table.ids
 ids_again o slots =
     let n = length o.table.ids in
     let lines = done_lines o slots in
@@ -95,7 +94,7 @@ ids_again o slots =
     get_or-map (λ (d : DoneLine). d.id) lines k none 0 inside ∙
     ap (λ (d : DoneLine). d.id) (get_or-map-range_with_len (done_line o slots) 0 n k k none (omega (arith, inside, count)) (omega arith)))
 
-slots_again : (o : Opening) (slots : List (List ℕ)) (c : ℕ) → c < length o.table.ids → slice_index (slots_done (done_lines o slots)) c ≡ completion o.table.flows slots c
+pub slots_again : (o : Opening) (slots : List (List ℕ)) (c : ℕ) → c < length o.table.ids → slice_index (slots_done (done_lines o slots)) c ≡ completion o.table.flows slots c
 slots_again o slots c lt =
     let n = length o.table.ids in
     let lines = done_lines o slots in

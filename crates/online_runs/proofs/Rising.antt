@@ -1,17 +1,16 @@
 -- The publishings of a journal, entry by entry: their times rise.
 use Rattle.std.proofs.Common.{◌≡◌, ◌≢◌, ℕ, ◌+◌, ◌<◌, ◌≤◌, inl, inr, true, false, List, [], ◌∷◌, ◌++◌, get_or, length, map, refl, sym, ap, subst, ◌∙◌, arith, cond, append-nil}
-use Rattle.std.proofs.Common.{append_assoc, Some, Option}
-use Rattle.std.specs.Prelude.{All, if◌then◌else◌}
+use Rattle.std.proofs.Common.{append_assoc, Some}
+use Rattle.std.specs.Prelude.{All}
 use Rattle.std.specs.List.Sorted.{IsStrictlyIncreasing}
 use Rattle.std.proofs.lemmas.Bool.{cases_lt}
 use Rattle.std.proofs.lemmas.List.{get_or_append_left, get_or_push, length_push, map_push}
-use Rattle.std.proofs.lemmas.List.Elements.{All-map, All-nil, All-push, All-weaker}
+use Rattle.std.proofs.lemmas.List.Elements.{All-nil, All-push, All-weaker}
 use Rattle.epochs.specs.declared.action.Action.TheVariants.{Publish as PublishOrder}
 use Rattle.epochs.specs.Course.{after, Course}
 use Rattle.online_text.specs.declared.value.Epoch.{Epoch}
 use Rattle.journal.specs.declared.command.Entry.{Entry}
 use Rattle.journal.specs.declared.opening.Opening.{Opening}
-use Rattle.journal.specs.Fold.{state_of}
 use Rattle.journal.specs.Journal.{is_version}
 use Rattle.online_runs.specs.Deeds.{time_of}
 use Rattle.online_runs.specs.Value.{epoch_at, epochs_from, epochs_of}

@@ -1,29 +1,24 @@
 -- What holds between the actions of an online run: no run is open, the course marks who joined and who left, and only
 -- arrivals were skipped to.
-use Rattle.std.proofs.Common.{◌≡◌, ℕ, ◌+◌, ◌-◌, ◌^◌, ◌<◌, ◌≤◌, inl, inr, Bool, true, false, true≢false, List, [], ◌∷◌, ◌++◌, get_or, length, map, max, min, refl, sym, ap}
-use Rattle.std.proofs.Common.{subst, ◌∙◌, arith, cond, append-nil, append_assoc, Option, Some, None}
-use Rattle.std.specs.Prelude.{All, Contains, ◌==◌, ◌&&◌, if◌then◌else◌, nat_le, nat_lt, not, slice_index, slice_index_or, slice_set}
+use Rattle.std.proofs.Common.{◌≡◌, ℕ, ◌+◌, ◌^◌, ◌<◌, ◌≤◌, inl, inr, true, false, List, [], ◌∷◌, ◌++◌, length, map, max, refl, sym, ap}
+use Rattle.std.proofs.Common.{subst, ◌∙◌, arith, append-nil, append_assoc, Option, Some, None}
+use Rattle.std.specs.Prelude.{All, if◌then◌else◌, nat_le, nat_lt, not, slice_index, slice_index_or, slice_set}
 use Rattle.std.proofs.lemmas.Bool.{and_from, and_parts, lt-leb, lt-ltb, not-true, not_from_false}
 use Rattle.std.proofs.lemmas.List.{length-replicate, length-set}
-use Rattle.std.proofs.lemmas.List.Elements.{All-append, All-cons, All-get_or, All-nil, All-push}
+use Rattle.std.proofs.lemmas.List.Elements.{All-append, All-cons, All-nil, All-push}
 use Rattle.coflow_units.specs.declared.limits.TheConstants.{MAX_PUBLISHINGS, MAX_UNITS}
 use Rattle.coflow_units.specs.Flows.{coflow_of}
 use Rattle.coflow_units.proofs.Numbers.{zero_or_more}
-use Rattle.epochs.specs.declared.action.Action.{Action}
-use Rattle.epochs.specs.declared.action.Action.TheVariants.{End, Publish as PublishOrder, Register as Join, Run as Serve, Skip as Pass, TooMany, Withdraw as Leave}
-use Rattle.epochs.specs.Choice.{IsFirstAction}
-use Rattle.epochs.specs.Course.{after, at_first, Course, IsArrival, is_marked, IsPresent, SomeOwes}
-use Rattle.journal.specs.declared.command.Command.{Command}
+use Rattle.epochs.specs.declared.action.Action.TheVariants.{Publish as PublishOrder, Register as Join, Run as Serve, Skip as Pass, Withdraw as Leave}
+use Rattle.epochs.specs.Course.{after, at_first, Course, is_marked, IsPresent, SomeOwes}
 use Rattle.journal.specs.declared.command.Command.TheVariants.{Close, Open, Publish, Register, Skip, Withdraw}
 use Rattle.journal.specs.declared.command.Entry.{Entry}
 use Rattle.journal.specs.declared.command.Reply.{Reply}
-use Rattle.journal.specs.declared.command.Reply.TheVariants.{Already, Closed, Joined, Late, Left, NotHere, NothingLeft, Opened, Skipped, StillOpen, StillOwed, Version}
+use Rattle.journal.specs.declared.command.Reply.TheVariants.{Already, Closed, Joined, Late, Left, NotHere, Opened, Skipped, StillOpen, StillOwed, Version}
 use Rattle.journal.specs.declared.opening.Opening.{Opening}
-use Rattle.journal.specs.Answer.{answer, in_range, on_run, skipped}
-use Rattle.journal.specs.Closed.{LeavesRuns}
+use Rattle.journal.specs.Answer.{in_range, on_run, skipped}
 use Rattle.journal.specs.Counts.{furthest_skip, is_noting, skipped_to}
 use Rattle.journal.specs.Driven.{closed_in, Drive, GoesOnByRun, opening}
-use Rattle.journal.specs.Entries.{is_moving}
 use Rattle.journal.specs.Fold.{after as after_entry, closed, start, state_of}
 use Rattle.journal.specs.Journal.{asked, entry, IsLegal}
 use Rattle.journal.specs.Line.{owing, version}
@@ -36,19 +31,18 @@ use Rattle.journal.proofs.Counting.{units_within}
 use Rattle.journal.proofs.Driving.{driven_goes_on}
 use Rattle.journal.proofs.Growth.{state_append, state_snoc}
 use Rattle.journal.proofs.Leaving.{leaves_push}
-use Rattle.journal.proofs.Legal.{legal_front}
 use Rattle.journal.proofs.MovingEntries.{by_skip}
 use Rattle.journal.proofs.NextSlots.{few_by_units}
 use Rattle.journal.proofs.OpenReplies.{open_reply}
 use Rattle.journal.proofs.Replies.{nothing_owing}
 use Rattle.journal.proofs.Sound.{legal_sound}
 use Rattle.journal.proofs.UnderWay.{close_reply}
-use Rattle.online_runs.specs.Deeds.{commands_of, IsDone, owed_after, time_of}
+use Rattle.online_runs.specs.Deeds.{owed_after, time_of}
 use Rattle.online_runs.specs.Input.{IsOnlineInput}
-use Rattle.epochs.proofs.Actions.{marked_below, skip_none_owes}
+use Rattle.epochs.proofs.Actions.{marked_below}
 use Rattle.online_runs.proofs.Marks.{HasMarked, marks_more, marks_none}
-use Rattle.online_runs.proofs.Owed.{flow_owes, owes_by_flow, OwesBy}
-use Rattle.online_runs.proofs.Shapes.{drive_of, goes_on_so, none_asked, one_asked, run_entries, run_is_driven, two_asked}
+use Rattle.online_runs.proofs.Owed.{flow_owes, owes_by_flow}
+use Rattle.online_runs.proofs.Shapes.{drive_of, one_asked, run_entries, run_is_driven, two_asked}
 
 abbrev pub Fits : Opening → Entry → Type 0
 Fits o e = in_range o e.command ≡ true

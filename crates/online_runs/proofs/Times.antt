@@ -1,35 +1,34 @@
 -- Who was served when: nobody before its arrival, and who left owes nothing.
-use Rattle.std.proofs.Common.{◌≡◌, ℕ, ◌+◌, ◌-◌, ◌<◌, ◌≤◌, ◌⊎◌, inl, inr, Bool, true, false, true≢false, List, [], ◌∷◌, ◌++◌, get_or, length, map, refl, sym, ap, subst, ◌∙◌}
-use Rattle.std.proofs.Common.{arith, cond, Contains, Option, Some, None, replicate, append-nil}
-use Rattle.std.specs.Prelude.{◌==◌, if◌then◌else◌, slice_index, slice_set, unwrap_or}
-use Rattle.std.specs.List.{list_any, range_with_len}
-use Rattle.std.proofs.lemmas.Bool.{cases_eq, cases_lt, eqb-true, eq-eqb}
-use Rattle.std.proofs.lemmas.List.{get_or-append-add, get_or_append_left, get_or_past, get_or-replicate, get_or-set_other, get_or-set_same, length-append, length-replicate}
-use Rattle.std.proofs.lemmas.List.Elements.{All-contains, All-get_or}
+use Rattle.std.proofs.Common.{◌≡◌, ℕ, ◌+◌, ◌-◌, ◌<◌, ◌≤◌, inl, inr, true, true≢false, List, [], ◌++◌, get_or, length, refl, sym, ap, subst, ◌∙◌}
+use Rattle.std.proofs.Common.{arith, Contains, Option, Some, replicate, append-nil}
+use Rattle.std.specs.Prelude.{◌==◌, slice_index, unwrap_or}
+use Rattle.std.proofs.lemmas.Bool.{cases_lt, eqb-true}
+use Rattle.std.proofs.lemmas.List.{get_or-append-add, get_or_append_left, get_or_past, get_or-replicate, length-replicate}
+use Rattle.std.proofs.lemmas.List.Elements.{All-contains}
 use Rattle.coflow_units.specs.declared.fabric.Flow.{Flow}
 use Rattle.coflow_units.specs.Completion.{holds_coflow}
 use Rattle.coflow_units.specs.Flows.{coflow_of, units_of}
-use Rattle.coflow_units.proofs.Lists.{any_where, number_in}
+use Rattle.coflow_units.proofs.Lists.{any_where}
 use Rattle.coflow_units.proofs.Numbers.{zero_or_more}
-use Rattle.coflow_units.proofs.Sums.{any_in, member_within_sum}
+use Rattle.coflow_units.proofs.Sums.{any_in}
 use Rattle.epochs.specs.declared.action.Action.TheVariants.{Publish as PublishOrder, Register as Join, Run as Serve, Skip as Pass, Withdraw as Leave}
 use Rattle.epochs.specs.Course.{after, arrival_of, Course, is_marked, IsPresent}
 use Rattle.journal.specs.declared.command.Entry.{Entry}
 use Rattle.journal.specs.declared.opening.Opening.{Opening}
-use Rattle.journal.specs.Closed.{LeavesRuns, LeavesSlots, schedule_of}
+use Rattle.journal.specs.Closed.{LeavesSlots, schedule_of}
 use Rattle.journal.specs.Driven.{driven, GoesOnByRun}
 use Rattle.journal.specs.Fold.{state_of}
 use Rattle.journal.specs.Journal.{IsLegal, line_of}
 use Rattle.journal.specs.Moves.{SkipsSlots}
-use Rattle.journal.specs.State.{has, is_present, owed, State}
+use Rattle.journal.specs.State.{owed}
 use Rattle.journal.proofs.Driving.{driven_even}
 use Rattle.journal.proofs.Present.{line_present}
 use Rattle.journal.proofs.Schedules.{schedule_length}
-use Rattle.online_runs.specs.Deeds.{coflow_owes, owed_after, time_of}
-use Rattle.epochs.proofs.Actions.{marked_again, marked_below, stays_marked}
-use Rattle.online_runs.proofs.Owed.{owes_at, owes_by_flow, OwesBy}
+use Rattle.online_runs.specs.Deeds.{owed_after, time_of}
+use Rattle.epochs.proofs.Actions.{marked_again, stays_marked}
+use Rattle.online_runs.proofs.Owed.{owes_by_flow}
 use Rattle.online_runs.proofs.Shapes.{drive_of, run_entries}
-use Rattle.online_runs.proofs.Standing.{few_slots, next_some, parts_here, run_goes, Stands}
+use Rattle.online_runs.proofs.Standing.{next_some, parts_here, run_goes, Stands}
 
 pub record KeepsTime (o : Opening) (s : Course) (j : List Entry) : Type 0 where
   pub arrived : (c : ℕ) → is_marked s.registered c ≡ true → arrival_of s c ≤ time_of o j

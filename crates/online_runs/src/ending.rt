@@ -1,63 +1,52 @@
 //! What an online run says when it has ended.
-ghost use Rattle.std.specs.Prelude.{◌≡◌, ◌≤◌, ◌<◌, ◌+◌, ℕ, All, IfOk, List, length, map, reverse, slice_index};
+ghost use Rattle.std.specs.Prelude.{◌≡◌, ◌≤◌, ◌<◌, ℕ, All, IfOk, length, map, slice_index};
 ghost use Rattle.std.specs.List.{range_with_len};
-ghost use Rattle.coflow_units.specs.declared.limits.TheConstants.{MAX_ARRIVAL, MAX_COFLOWS, MAX_WEIGHT};
+ghost use Rattle.coflow_units.specs.declared.limits.TheConstants.{MAX_WEIGHT};
 ghost use Rattle.coflow_units.specs.Completion.{completion, cost};
 ghost use Rattle.coflow_units.specs.Schedule.{IsRuns};
-ghost use Rattle.flow_table.specs.Table.{instance_of, TableFacts};
 ghost use Rattle.schedule_model.specs.RunList.{NamesFlows, pairs_of};
-ghost use Rattle.online_text.specs.declared.value.DoneLine.{DoneLine};
 ghost use Rattle.release_bound.specs.declared.place.ReleasePlace.{ReleasePlace};
-ghost use Rattle.release_bound.specs.Release.{released_total};
-ghost use Rattle.release_bound.specs.ReleaseOrder.{IsReleasedOrdering};
 ghost use Rattle.online_runs.specs.Value.{release_line};
 
-use crate::progress::Progress;
 use coflow_units::{Items, NoMemory};
 use flow_table::Table;
-use online_text::{DoneLine, Online, ReleaseLine};
-use release_bound::{ReleasePlace, Threshold, released_by};
+use online_text::{DoneLine, Epoch, Online, ReleaseLine};
+use release_bound::{ReleasePlace, Released};
 use schedule_model::{Schedule, completions, cost_of};
 use std::alloc::Global;
 
-/// What an online run says that has come to its end, from what is kept of it.
+/// What an online run says that has come to its end: these are its publishings and its schedule, and it has this
+/// released certificate of the coflows of the table. The error is want of memory.
 pub fn told(
     alloc: Global,
     table: &Table,
     weights: &[u64],
-    arrivals: &[u64],
-    progress: Progress,
+    released: &Released,
+    epochs: Vec<Epoch>,
+    schedule: Schedule,
 ) -> Result<Online, NoMemory>
     requires weight_each { length weights.now ≡ length table.now.ids }
     requires weight_range { All (λ w. w ≤ MAX_WEIGHT) weights.now }
-    requires arrival_each { length arrivals.now ≡ length table.now.ids }
-    requires arrival_range { All (λ a. a ≤ MAX_ARRIVAL + 1) arrivals.now }
-    requires names { NamesFlows (length table.now.flows) progress.schedule }
-    ensures epochs { IfOk result (λ x. x.epochs ≡ progress.epochs.items) }
+    requires places { All (λ (r : ReleasePlace). r.coflow < length table.now.ids) released.now.places.items }
+    requires names { NamesFlows (length table.now.flows) schedule }
+    ensures epochs { IfOk result (λ x. x.epochs ≡ epochs.items) }
     ensures done { IfOk result (λ x. x.done ≡ map (λ c. record {
       id = slice_index table.now.ids c;
-      slot = completion table.now.flows progress.schedule c;
+      slot = completion table.now.flows schedule c;
     }) (range_with_len 0 (length table.now.ids))) }
     ensures cost { IfOk result (λ x. x.cost ≡ cost table.now.flows (slice_index weights.now)
-        (range_with_len 0 (length table.now.ids)) progress.schedule) }
-    ensures release { IfOk result (λ x. (places : List ReleasePlace)
-        × IsReleasedOrdering (instance_of table.now weights.now) (slice_index arrivals.now) places
-        × (x.release ≡ map (release_line table.now.ids) (reverse places))
-        × (x.total ≡ released_total table.now.flows (slice_index arrivals.now) table.now.ports places)) }
-    ensures runs { IfOk result (λ x. IsRuns progress.schedule (pairs_of x.runs)) }
+        (range_with_len 0 (length table.now.ids)) schedule) }
+    ensures release { IfOk result (λ x. x.release ≡ map (release_line table.now.ids) released.now.places.items) }
+    ensures total { IfOk result (λ x. x.total ≡ released.now.total) }
+    ensures runs { IfOk result (λ x. IsRuns schedule (pairs_of x.runs)) }
 {
-    let done = done_of(alloc, table, weights, &progress.schedule)?;
-    let released = released_of(alloc, table, weights, arrivals)?;
-    let Progress {
-        epochs,
-        schedule,
-        ..
-    } = progress;
+    let done = done_of(alloc, table, weights, &schedule)?;
+    let release = release_lines(alloc, table, &released.places)?;
     Ok(Online {
         epochs: Items::from_vec(epochs),
         done: Items::from_vec(done.lines),
         cost: done.cost,
-        release: Items::from_vec(released.lines),
+        release: Items::from_vec(release),
         total: released.total,
         runs: schedule.into_runs(),
     })
@@ -109,37 +98,6 @@ fn done_lines(alloc: Global, table: &Table, ends: &[u64]) -> Result<Vec<DoneLine
         })?;
     }
     Ok(lines)
-}
-
-/// A released certificate as lines, with its total.
-#[derive(Drop)]
-struct ReleasedLines {
-    lines: Vec<ReleaseLine>,
-    total: u128,
-}
-
-/// The released certificate of the table's coflows with these weights and arrivals, as lines from place 1 on, and its total.
-fn released_of(
-    alloc: Global,
-    table: &Table,
-    weights: &[u64],
-    arrivals: &[u64],
-) -> Result<ReleasedLines, NoMemory>
-    requires weight_each { length weights.now ≡ length table.now.ids }
-    requires weight_range { All (λ w. w ≤ MAX_WEIGHT) weights.now }
-    requires arrival_each { length arrivals.now ≡ length table.now.ids }
-    requires arrival_range { All (λ a. a ≤ MAX_ARRIVAL + 1) arrivals.now }
-    ensures { IfOk result (λ r. (places : List ReleasePlace)
-        × IsReleasedOrdering (instance_of table.now weights.now) (slice_index arrivals.now) places
-        × (r.lines.items ≡ map (release_line table.now.ids) (reverse places))
-        × (r.total ≡ released_total table.now.flows (slice_index arrivals.now) table.now.ports places)) }
-{
-    let released = released_by(alloc, table, weights, arrivals, Threshold::One)?;
-    let lines = release_lines(alloc, table, &released.places)?;
-    Ok(ReleasedLines {
-        lines,
-        total: released.total,
-    })
 }
 
 /// What a line says of each place.

@@ -1,5 +1,5 @@
 -- What is kept after an action tells the moment after it.
-use Rattle.std.proofs.Common.{◌≡◌, ℕ, ◌+◌, ◌-◌, ◌<◌, ◌≤◌, Bool, true, false, List, [], ◌∷◌, ◌++◌, length, replicate, refl, sym, ap, subst, ◌∙◌, arith}
+use Rattle.std.proofs.Common.{◌≡◌, ℕ, ◌+◌, ◌-◌, ◌<◌, ◌≤◌, Bool, true, false, List, [], ◌∷◌, ◌++◌, None, length, replicate, refl, sym, ap, subst, ◌∙◌, arith}
 use Rattle.std.specs.Prelude.{All, ◌==◌, ◌&&◌, filter, map, not, slice_index, slice_set}
 use Rattle.std.proofs.Math.Path.{fun_ext}
 use Rattle.std.proofs.lemmas.Bool.{both_ways}
@@ -21,10 +21,12 @@ use Rattle.replays.specs.declared.progress.Progress.{Progress}
 use Rattle.epochs.specs.Tallies.{IsTallied}
 use Rattle.replays.specs.Kept.{FitsTable, HasSameRoom, IsAt, Tells, TellsLine, TellsMarks, TellsProgress}
 use Rattle.replays.specs.Moments.{DoesNext, Input, Moment, first_moment, is_here, joined_at, left_the_line, served_at}
+use Rattle.replays.specs.Recording.{BothRecorded, IsRunRecorded, TellsRecording}
 use Rattle.replays.specs.Replayed.{IsInput}
 use Rattle.replays.proofs.Holding.{longer}
 use Rattle.replays.proofs.Marks.{here_parts}
 use Rattle.replays.proofs.Publishings.{same_marks}
+use Rattle.replays.proofs.Recordings.{run_recorded, same_recording}
 use Rattle.replays.proofs.Remaining.{skip_time}
 use Rattle.replays.proofs.Running.{run_less}
 use Rattle.replays.proofs.Telling.{completion_on, here_joined, here_left, same_progress, stale_line}
@@ -37,8 +39,8 @@ joins_low x m coflow old at does = omega (arith, does.applies.waits.coflow_in, a
 pub joined_tells : (x : Input) (m : Moment) (coflow : ℕ) (old new : Kept) → IsAt x m old → DoesNext x m (Register coflow) → new.progress ≡ old.progress →
     new.marks.joined.items ≡ slice_set old.marks.joined.items coflow true → new.marks.present.items ≡ slice_set old.marks.present.items coflow true →
     new.marks.told ≡ old.marks.told → new.line.coflows.items ≡ old.line.coflows.items ++ coflow ∷ [] → new.line.stale ≡ true → new.line.grants ≡ old.line.grants →
-    new.questions ≡ old.questions → Tells x (joined_at m coflow) new
-joined_tells x m coflow old new at does progress joined present told line stale grants questions =
+    new.questions ≡ old.questions → new.recording ≡ old.recording → Tells x (joined_at m coflow) new
+joined_tells x m coflow old new at does progress joined present told line stale grants questions recording =
     let t = at.tells in
     let next = joined_at m coflow in
     let low = joins_low x m coflow old at does in
@@ -61,6 +63,7 @@ joined_tells x m coflow old new at does progress joined present told line stale 
       line = stale_line x m next old.line new.line t.line (line ∙ ap (λ l. l ++ coflow ∷ []) t.line.coflows_are) stale grants;
       fits = subst (FitsTable x.table x.weights) (sym questions) t.fits;
       published = ap (λ q. q.published) questions ∙ t.published;
+      recording = subst (TellsRecording x next) (sym recording) (same_recording x m next old.recording refl refl t.recording);
     }
 
 -- ---- a coflow leaves
@@ -71,8 +74,8 @@ leaves_low x m coflow old at does = omega (arith, marked_below m.course.register
 pub left_tells : (x : Input) (m : Moment) (coflow : ℕ) (old new : Kept) → IsAt x m old → DoesNext x m (Withdraw coflow) → new.progress ≡ old.progress →
     new.marks.joined ≡ old.marks.joined → new.marks.present.items ≡ slice_set old.marks.present.items coflow false →
     new.marks.told ≡ old.marks.told → new.line.coflows.items ≡ filter (λ c. not (c == coflow)) old.line.coflows.items → new.line.stale ≡ true →
-    new.line.grants ≡ old.line.grants → new.questions ≡ old.questions → Tells x (left_the_line m coflow) new
-left_tells x m coflow old new at does progress joined present told line stale grants questions =
+    new.line.grants ≡ old.line.grants → new.questions ≡ old.questions → new.recording ≡ old.recording → Tells x (left_the_line m coflow) new
+left_tells x m coflow old new at does progress joined present told line stale grants questions recording =
     let t = at.tells in
     let next = left_the_line m coflow in
     let low = leaves_low x m coflow old at does in
@@ -94,6 +97,7 @@ left_tells x m coflow old new at does progress joined present told line stale gr
       line = stale_line x m next old.line new.line t.line (line ∙ ap (filter (λ c. not (c == coflow))) t.line.coflows_are) stale grants;
       fits = subst (FitsTable x.table x.weights) (sym questions) t.fits;
       published = ap (λ q. q.published) questions ∙ t.published;
+      recording = subst (TellsRecording x next) (sym recording) (same_recording x m next old.recording refl refl t.recording);
     }
 
 -- ---- slots pass
@@ -121,8 +125,9 @@ skipped_progress x m n old new t some time left owed ends = record {
 
 pub skipped_tells : (x : Input) (m : Moment) (to : ℕ) (old new : Kept) → IsAt x m old → DoesNext x m (Skip to) → new.progress.time ≡ to - 1 →
     new.progress.left ≡ old.progress.left → new.progress.owed ≡ old.progress.owed → new.progress.ends ≡ old.progress.ends → new.marks ≡ old.marks → new.line ≡ old.line →
-    new.questions ≡ old.questions → Tells x (served_at m (to - 1 - old.progress.time) []) new
-skipped_tells x m to old new at does time left owed ends marks line questions =
+    new.questions ≡ old.questions → BothRecorded old.recording new.recording (IsRunRecorded (to - 1 - old.progress.time) []) →
+    Tells x (served_at m (to - 1 - old.progress.time) []) new
+skipped_tells x m to old new at does time left owed ends marks line questions both =
     let t = at.tells in
     let n = to - 1 - old.progress.time in
     let next = served_at m n [] in
@@ -142,6 +147,7 @@ skipped_tells x m to old new at does time left owed ends marks line questions =
       line = subst (TellsLine x next) (sym line) (skipped_line x m n old.line t.line);
       fits = subst (FitsTable x.table x.weights) (sym questions) t.fits;
       published = ap (λ q. q.published) questions ∙ t.published;
+      recording = run_recorded x m n [] old.recording new.recording both t.recording;
     }
 
 -- ---- a run
@@ -174,8 +180,8 @@ ran_line x m granted n old between new t first room settled listed second later 
 pub ran_tells : (x : Input) (m : Moment) (granted : List ℕ) (n : ℕ) (old new : Kept) → IsAt x m old → TellsProgress x (served_at m n granted) new.progress →
     TellsLine x (served_at m n granted) new.line →
     length new.progress.owed.items ≡ length old.progress.owed.items → length new.progress.ends.items ≡ length old.progress.ends.items →
-    new.marks ≡ old.marks → new.questions ≡ old.questions → Tells x (served_at m n granted) new
-ran_tells x m granted n old new at progress line owed ends marks questions =
+    new.marks ≡ old.marks → new.questions ≡ old.questions → BothRecorded old.recording new.recording (IsRunRecorded n granted) → Tells x (served_at m n granted) new
+ran_tells x m granted n old new at progress line owed ends marks questions both =
     let t = at.tells in
     let next = served_at m n granted in
     record {
@@ -191,6 +197,7 @@ ran_tells x m granted n old new at progress line owed ends marks questions =
       line = line;
       fits = subst (FitsTable x.table x.weights) (sym questions) t.fits;
       published = ap (λ q. q.published) questions ∙ t.published;
+      recording = run_recorded x m n granted old.recording new.recording both t.recording;
     }
 
 -- ---- before the first action
@@ -200,8 +207,9 @@ pub first_tells : (x : Input) (ranker : Meaning) (kept : Kept) → IsInput x →
     length kept.progress.ends.items ≡ length x.table.ids → All (λ end. end ≡ 0) kept.progress.ends.items →
     kept.marks.joined.items ≡ replicate (length x.table.ids) false → kept.marks.present.items ≡ replicate (length x.table.ids) false →
     kept.marks.told.items ≡ replicate (length x.table.ids) false → kept.line.coflows.items ≡ [] → kept.line.stale ≡ true → ports_of kept.line.grants ≡ x.table.ports →
-    room_of kept.line.grants ≡ length x.table.flows → FitsTable x.table x.weights kept.questions → kept.questions.published ≡ 0 → Tells x (first_moment x ranker) kept
-first_tells x ranker kept input time left each_owed tallied each_end ends joined present told none stale ports room fits published =
+    room_of kept.line.grants ≡ length x.table.flows → FitsTable x.table x.weights kept.questions → kept.questions.published ≡ 0 → kept.recording ≡ None →
+    Tells x (first_moment x ranker) kept
+first_tells x ranker kept input time left each_owed tallied each_end ends joined present told none stale ports room fits published nothing =
     let n = length x.table.ids in
     let as_long : replicate n false ≡ replicate (length x.arrivals) false = ap (λ k. replicate k false) (sym input.each_arrival) in
     record {
@@ -226,6 +234,7 @@ first_tells x ranker kept input time left each_owed tallied each_end ends joined
       line = record { coflows_are = none; ports = ports; room = omega (arith, room); settled = λ fresh. absurd (both_ways kept.line.stale fresh stale) };
       fits = fits;
       published = published;
+      recording = subst (TellsRecording x (first_moment x ranker)) (sym nothing) tt;
     } where
       nobody_here : (x : Input) (ranker : Meaning) (c : ℕ) → is_here (first_moment x ranker) c ≡ false
       nobody_here x ranker c = ap (λ b. b && not (is_marked (replicate (length x.arrivals) false) c)) (none_marked (length x.arrivals) c)

@@ -7,6 +7,11 @@ mod Numbers
 mod OneFacts
 mod OneReplay
 pub mod Publishings
+pub mod Recordings
+pub mod LeftInstances
+pub mod Charges
+pub mod Publishes
+pub mod MomentSteps
 pub mod Reaching
 pub mod Remaining
 pub mod Running
@@ -16,6 +21,18 @@ pub mod Tellings
 pub mod Acts
 pub mod HandedOn
 mod ReleasedReplays
+mod GrantedSlots
+mod PublishedBounds
+mod Records
+mod RightRecords
 mod ReplayText
+mod RisingTimes
 mod RowCosts
 mod RowRankers
+mod TakenBenches
+mod OrderingsOfPresent
+mod MasterLines
+mod OnlineAlike
+mod OnlineOrders
+mod OnlineServing
+mod AsOnline

@@ -14,9 +14,11 @@ use Rattle.replays.specs.declared.kept.Kept.{Kept}
 use Rattle.replays.specs.declared.line.Line.{Line}
 use Rattle.replays.specs.declared.news.Marks.{Marks}
 use Rattle.replays.specs.declared.questions.Questions.{Questions}
+use Rattle.replays.specs.declared.recording.Recording.{Recording}
 use Rattle.replays.specs.Kept.{FitsTable, Tells, TellsMarks}
 use Rattle.replays.specs.Moments.{Input, IsAsked, IsPublished, Moment, asked_at, is_here, left_here, published_at}
 use Rattle.replays.specs.Publishing.{told_moment}
+use Rattle.replays.specs.Recording.{TellsRecording}
 use Rattle.replays.proofs.Telling.{same_progress, stale_line}
 
 pub same_marks : (m next : Moment) (marks : Marks) → next.course.registered ≡ m.course.registered → next.course.withdrawn ≡ m.course.withdrawn → next.told ≡ m.told →
@@ -57,12 +59,13 @@ is_published x m facts answer before asked is answers order each =
     }
 
 -- what is kept then
-pub published_tells : (x : Input) (m : Moment) (facts : FactsTold) (mid : Kept) (line : Line) (q : Questions) (answer : List ℕ) (present : List Bool) (before : Meaning) →
+pub published_tells : (x : Input) (m : Moment) (facts : FactsTold) (mid : Kept) (line : Line) (q : Questions) (answer : List ℕ) (present : List Bool) (before : Meaning)
+    (recording : Option Recording) →
     Tells x (told_moment x m) mid → before ≡ asked_at x m → answer ≡ answer_of before facts → present ≡ mid.marks.present.items →
     line.coflows.items ≡ filter (is_marked present) answer → line.stale ≡ true → line.grants ≡ mid.line.grants → FitsTable x.table x.weights q →
-    q.published ≡ mid.questions.published + 1 →
-    Tells x (published_at x m facts) (record { progress = mid.progress; marks = mid.marks; line = line; questions = q })
-published_tells x m facts mid line q answer present before t is answers lent lined stale grants fits count =
+    q.published ≡ mid.questions.published + 1 → TellsRecording x (published_at x m facts) recording →
+    Tells x (published_at x m facts) (record { progress = mid.progress; marks = mid.marks; line = line; questions = q; recording = recording })
+published_tells x m facts mid line q answer present before recording t is answers lent lined stale grants fits count recorded =
     let next = published_at x m facts in
     record {
       progress = same_progress x (told_moment x m) next mid.progress refl t.progress;
@@ -74,6 +77,7 @@ published_tells x m facts mid line q answer present before t is answers lent lin
           stale grants;
       fits = fits;
       published = count ∙ ap (λ n. n + 1) t.published;
+      recording = recorded;
     }
 
 -- ---- as the publishing meets them

@@ -149,7 +149,7 @@ module _ (x : Input) (m : Moment) (c : ℕ) (st : Stands x m) (joins : Registers
 abbrev share : Input → Moment → ℕ → ℕ → ℕ
 share x m c f = if coflow_of x.table.flows f == c then left_after x.table.flows m.slots f else 0
 
-owes_all : (x : Input) (m : Moment) (c f : ℕ) → f < length x.table.flows → coflow_of x.table.flows f ≡ c → left_after x.table.flows m.slots f ≤ owes x m c
+pub owes_all : (x : Input) (m : Moment) (c f : ℕ) → f < length x.table.flows → coflow_of x.table.flows f ≡ c → left_after x.table.flows m.slots f ≤ owes x m c
 owes_all x m c f lt of =
     let here = ap {B = ℕ} (λ b. if b then left_after x.table.flows m.slots f else 0) (eq-eqb (coflow_of x.table.flows f) c of) in
     omega (arith, here, member_within_sum (share x m c) (range_with_len 0 (length x.table.flows)) f (number_in 0 (length x.table.flows) f (omega arith) (omega (arith, lt))))

@@ -12,8 +12,10 @@ use Rattle.replays.specs.declared.progress.Progress.{Progress}
 use Rattle.replays.specs.Kept.{FitsTable, Holds, IsAt, Tells, TellsLine, TellsProgress, is_untold}
 use Rattle.replays.specs.Moments.{Input, Moment, asked_at, is_news, news, told_at}
 use Rattle.replays.specs.Publishing.{told_moment}
+use Rattle.replays.specs.Recording.{TellsRecording}
 use Rattle.replays.proofs.Holding.{told_len}
 use Rattle.replays.proofs.NewsSteps.{asked_is, told_is}
+use Rattle.replays.proofs.Recordings.{same_recording}
 use Rattle.replays.proofs.Telling.{same_progress}
 
 holds_told : (x : Input) (m : Moment) → Holds x m → Holds x (told_moment x m)
@@ -53,6 +55,7 @@ quiet x m kept before at none =
           line = line_told x m kept t;
           fits = t.fits;
           published = t.published;
+          recording = same_recording x m (told_moment x m) kept.recording refl refl t.recording;
         };
       },
       λ is. sym is ∙ sym asked,
@@ -63,8 +66,9 @@ pub told_on : (x : Input) (m : Moment) (old new : Kept) (n : ℕ) (before after 
     after ≡ after_notes before (key_in old.progress.ends.items) (filter (is_untold old.marks old.progress) (by_key (key_in old.progress.ends.items) n)) →
     new.marks.told.items ≡ map (λ c. is_marked old.marks.told.items c || is_untold old.marks old.progress c) (range_with_len 0 n) →
     new.marks.joined ≡ old.marks.joined → new.marks.present ≡ old.marks.present → new.progress ≡ old.progress → new.line ≡ old.line →
-    FitsTable x.table x.weights new.questions → new.questions.published ≡ old.questions.published → IsAt x (told_moment x m) new × (m.ranker ≡ before → after ≡ asked_at x m)
-told_on x m old new n before after at some count notes marks joined present progress line fits published =
+    FitsTable x.table x.weights new.questions → new.questions.published ≡ old.questions.published → new.recording ≡ old.recording →
+    IsAt x (told_moment x m) new × (m.ranker ≡ before → after ≡ asked_at x m)
+told_on x m old new n before after at some count notes marks joined present progress line fits published recording =
     let t = at.tells in
     let later : (m.course.published == 0) ≡ false = ne_eqb m.course.published 0 (λ e. some (t.published ∙ e)) in
     let told = told_is x m old n new.marks.told.items t later count marks in
@@ -89,6 +93,7 @@ told_on x m old new n before after at some count notes marks joined present prog
           line = subst (λ l. TellsLine x next l) (sym line) (line_told x m old t);
           fits = fits;
           published = published ∙ t.published;
+          recording = subst (TellsRecording x next) (sym recording) (same_recording x m next old.recording refl refl t.recording);
         };
       },
       λ is. asked_is x m old n before after t is later count notes,

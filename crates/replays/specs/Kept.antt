@@ -7,6 +7,7 @@ use Rattle.coflow_units.specs.Completion.{completion}
 use Rattle.coflow_units.specs.Flows.{IsDistinct}
 use Rattle.coflow_units.specs.Served.{left_after}
 use Rattle.epochs.specs.declared.action.Action.{Action}
+use Rattle.epochs.specs.declared.action.Action.TheVariants.{End}
 use Rattle.epochs.specs.Course.{Course, is_marked}
 use Rattle.epochs.specs.Tallies.{IsTallied}
 use Rattle.flow_table.specs.Table.{TableFacts}
@@ -19,6 +20,7 @@ use Rattle.replays.specs.declared.progress.Progress.{Progress}
 use Rattle.replays.specs.declared.questions.Questions.{Questions}
 use Rattle.rankers.specs.Meaning.{Meaning}
 use Rattle.replays.specs.Moments.{DoesNext, Input, IsMoment, Moment, is_here, time_at}
+use Rattle.replays.specs.Recording.{TellsRecording}
 use Rattle.replays.specs.Replayed.{IsInput}
 
 -- there is room for as many flows and ports
@@ -82,6 +84,7 @@ pub record Tells (x : Input) (m : Moment) (kept : Kept) : Type 0 where
   pub line : TellsLine x m kept.line
   pub fits : FitsTable x.table x.weights kept.questions
   pub published : kept.questions.published ≡ m.course.published
+  pub recording : TellsRecording x m kept.recording
 
 -- ---- what holds of each moment
 
@@ -121,6 +124,13 @@ pub record Reaches (x : Input) (ranker : Meaning) (course : Course) (kept : Kept
   pub at : IsAt x moment kept
   pub course_is : course ≡ moment.course
   pub ranker_is : moment.ranker ≡ now
+
+-- the replay of this ranker ended, and what is kept is that of its last moment
+pub record Ends (x : Input) (ranker : Meaning) (kept : Kept) : Type 0 where
+  pub moment : Moment
+  pub reached : IsMoment x ranker moment
+  pub ends : DoesNext x moment End
+  pub at : IsAt x moment kept
 
 -- the input whose arrivals and epochs are those of the course
 abbrev pub input_of : TableFacts → List ℕ → Course → Input

@@ -3,5 +3,7 @@ pub mod Moments
 pub mod Replayed
 pub mod Kept
 pub mod Publishing
+pub mod Recorded
+pub mod Recording
 pub mod Reported
 pub mod Text

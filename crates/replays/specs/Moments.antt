@@ -1,10 +1,10 @@
 -- The moments of a replay. Coflows join as they arrive, at each epoch a ranker orders all coflows, and those that are present
 -- stand in its order; in each slot the line is served.
 use Rattle.std.specs.Prelude.{◌≡◌, ℕ, ◌-◌, ◌==◌, ◌&&◌, ◌||◌, not, if◌then◌else◌, Bool, List, [], ◌∷◌, ◌++◌}
-use Rattle.std.specs.Prelude.{filter, length, map, replicate, sum_by, false}
+use Rattle.std.specs.Prelude.{filter, length, map, replicate, slice_index, sum_by, false}
 use Rattle.std.specs.List.{range_with_len}
 use Rattle.coflow_units.specs.Completion.{completion}
-use Rattle.coflow_units.specs.Flows.{coflow_of}
+use Rattle.coflow_units.specs.Flows.{Instance, coflow_of, with_units}
 use Rattle.coflow_units.specs.Grants.{IsGrants, IsRunLength}
 use Rattle.coflow_units.specs.Served.{left_after}
 use Rattle.class_rates.specs.Classes.{IsPermutation}
@@ -24,10 +24,17 @@ pub record Input : Type 0 where
   pub arrivals : List ℕ
   pub every : ℕ
 
--- which coflows joined and left, and when an order was published last; the line that is served; the slots so far; the
--- ranker, as it is by now; and the coflows whose end it was told
+-- an order that was published: how many slots had passed, what was left then, and the line that it made
+pub record Publishing : Type 0 where
+  pub time : ℕ
+  pub left : Instance
+  pub line : List ℕ
+
+-- which coflows joined and left, and when an order was published last; the orders that were published; the line that is
+-- served; the slots so far; the ranker, as it is by now; and the coflows whose end it was told
 pub record Moment : Type 0 where
   pub course : Course
+  pub publishings : List Publishing
   pub line : List ℕ
   pub slots : List (List ℕ)
   pub ranker : Meaning
@@ -37,6 +44,7 @@ pub record Moment : Type 0 where
 abbrev pub first_moment : Input → Meaning → Moment
 first_moment x ranker = record {
   course = at_first x.arrivals x.every;
+  publishings = [];
   line = [];
   slots = [];
   ranker = ranker;
@@ -64,6 +72,16 @@ is_here m coflow = is_marked m.course.registered coflow && not (is_marked m.cour
 -- the units that a flow has left, where its coflow is present, and else 0
 abbrev pub left_here : Input → Moment → ℕ → ℕ
 left_here x m f = if is_here m (coflow_of x.table.flows f) then left_after x.table.flows m.slots f else 0
+
+-- what is left: the present coflows with their weights, and the same flow numbers, each with the units that it has left
+-- where its coflow is present, and none elsewhere
+abbrev pub left_at : Input → Moment → Instance
+left_at x m = record {
+  coflows = filter (is_here m) (range_with_len 0 (length x.table.ids));
+  weight = slice_index x.weights;
+  ports = x.table.ports;
+  flows = with_units (left_here x m) x.table.flows;
+}
 
 -- ---- questions
 
@@ -97,6 +115,11 @@ pub record IsAsked (x : Input) (m : Moment) (facts : FactsTold) : Type 0 where
 abbrev pub published_at : Input → Moment → FactsTold → Moment
 published_at x m facts = record {
   course = after m.course (time_at m) Publish;
+  publishings = m.publishings ++ record {
+    time = time_at m;
+    left = left_at x m;
+    line = filter (is_here m) (answer_of (asked_at x m) facts);
+  } ∷ [];
   line = filter (is_here m) (answer_of (asked_at x m) facts);
   slots = m.slots;
   ranker = after_question (asked_at x m) facts;
@@ -109,6 +132,7 @@ published_at x m facts = record {
 abbrev pub joined_at : Moment → ℕ → Moment
 joined_at m coflow = record {
   course = after m.course (time_at m) (Register coflow);
+  publishings = m.publishings;
   line = m.line ++ coflow ∷ [];
   slots = m.slots;
   ranker = m.ranker;
@@ -119,6 +143,7 @@ joined_at m coflow = record {
 abbrev pub left_the_line : Moment → ℕ → Moment
 left_the_line m coflow = record {
   course = after m.course (time_at m) (Withdraw coflow);
+  publishings = m.publishings;
   line = filter (λ c. not (c == coflow)) m.line;
   slots = m.slots;
   ranker = m.ranker;
@@ -129,6 +154,7 @@ left_the_line m coflow = record {
 abbrev pub served_at : Moment → ℕ → List ℕ → Moment
 served_at m count flows = record {
   course = m.course;
+  publishings = m.publishings;
   line = m.line;
   slots = m.slots ++ replicate count flows;
   ranker = m.ranker;

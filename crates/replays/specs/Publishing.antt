@@ -24,6 +24,7 @@ IsPublishing table old before new after unfit = (x : Input) (m : Moment) → IsA
 abbrev pub told_moment : Input → Moment → Moment
 told_moment x m = record {
   course = m.course;
+  publishings = m.publishings;
   line = m.line;
   slots = m.slots;
   ranker = asked_at x m;

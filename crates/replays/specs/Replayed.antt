@@ -1,5 +1,5 @@
 -- What the replay of a ranker comes to.
-use Rattle.std.specs.Prelude.{◌≡◌, ℕ, ◌+◌, ◌≤◌, List, [], ◌∷◌, All, length, slice_index}
+use Rattle.std.specs.Prelude.{◌≡◌, ℕ, ◌+◌, ◌≤◌, ◌⊎◌, List, [], ◌∷◌, ◌++◌, All, length, slice_index}
 use Rattle.std.specs.List.{range_with_len}
 use Rattle.coflow_units.specs.declared.limits.TheConstants.{MAX_ARRIVAL, MAX_OPTION_SLOTS, MAX_WEIGHT}
 use Rattle.coflow_units.specs.Completion.{cost}
@@ -61,3 +61,21 @@ abbrev pub AreRowsFrom : Input → ℕ → List Meaning → List ReplayRow → T
 AreRowsFrom x index [] rows = rows ≡ []
 AreRowsFrom x index (m ∷ ms) rows = (result : Replayed) × (rest : List ReplayRow) × IsReplayed x m result ×
     (rows ≡ record { index = index; name = m.name; result = result } ∷ rest) × AreRowsFrom x (index + 1) ms rest
+
+-- these are left of the bench, and rankers before them were taken off it: the replay of each but the last of these came to
+-- something
+pub record WereTaken (x : Input) (bench left : List Meaning) : Type 0 where
+  pub before : List Meaning
+  pub last : Meaning
+  pub bench_is : bench ≡ before ++ last ∷ left
+  pub rows : List ReplayRow
+  pub came : AreRowsFrom x 1 before rows
+
+-- the replay of the last one that was taken off would publish more orders than may be
+pub record StopsAt (x : Input) (count : ℕ) (bench left : List Meaning) : Type 0 where
+  pub taken : WereTaken x bench left
+  pub too_many : IsTooManyFor x taken.last count
+
+-- none was taken off, or the replay of each but the last one that was came to something
+abbrev pub IsCutOff : Input → List Meaning → List Meaning → Type 0
+IsCutOff x bench left = (bench ≡ left) ⊎ WereTaken x bench left

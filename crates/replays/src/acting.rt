@@ -1,10 +1,11 @@
 //! The actions of a replay.
-ghost use Rattle.std.specs.Prelude.{◌≡◌, ℕ, Err, None, Ok, Some};
+ghost use Rattle.std.specs.Prelude.{◌≡◌, ℕ, Err, None, Ok, OnOk, Some, is_some};
 ghost use Rattle.rankers.specs.Meaning.{Meaning};
 ghost use Rattle.replays.specs.declared.rows.Replayed.{Replayed};
+ghost use Rattle.replays.specs.declared.rows.Replayed.TheVariants.{Cost};
 ghost use Rattle.replays.specs.declared.rows.ReplayFault.TheVariants.{TooMany};
 ghost use Rattle.replays.specs.Acting.{EndsAs, GoesOnFrom, MayAct};
-ghost use Rattle.epochs.specs.declared.action.Action.TheVariants.{TooMany as PublishesTooMany};
+ghost use Rattle.epochs.specs.declared.action.Action.TheVariants.{End, TooMany as PublishesTooMany};
 
 use crate::kept::Kept;
 use crate::publishing::publish;
@@ -29,6 +30,8 @@ pub(crate) fn act(
         GoesOnFrom table.now kept.old (meaning ranker.old) action kept.new (meaning ranker.new) }
     ensures ends { (replayed : Replayed) → result ≡ Ok (Some replayed) →
         EndsAs table.now weights.now kept.old (meaning ranker.old) action replayed }
+    ensures last { (total : ℕ) → result ≡ Ok (Some (Cost total)) → (action ≡ End) × (kept.new ≡ kept.old) }
+    ensures recorded { OnOk result (is_some kept.new.recording ≡ is_some kept.old.recording) }
     ensures too_many { (count : ℕ) → result ≡ Err (TooMany count) → action ≡ PublishesTooMany count }
 {
     match action {
@@ -48,11 +51,11 @@ pub(crate) fn act(
             }
         }
         Action::Run(most) => {
-            kept.run(table, most);
+            kept.run(table, most)?;
             Ok(None)
         }
         Action::Skip(to) => {
-            kept.skip(to);
+            kept.skip(to)?;
             Ok(None)
         }
         Action::End => Ok(Some(Replayed::Cost(cost_of(weights, &kept.progress.ends)))),

@@ -1,10 +1,11 @@
 //! The replay of one ranker.
-ghost use Rattle.std.specs.Prelude.{◌≡◌, ◌≤◌, ◌^◌, ℕ, All, Err, IfOk, length};
+ghost use Rattle.std.specs.Prelude.{◌≡◌, ◌≤◌, ◌^◌, ℕ, All, Err, IfOk, Ok, OnOk, is_some, length};
 ghost use Rattle.coflow_units.specs.declared.limits.TheConstants.{MAX_COFLOWS, MAX_OPTION_SLOTS};
 ghost use Rattle.epochs.specs.Course.{at_first};
 ghost use Rattle.rankers.specs.Meaning.{Meaning};
 ghost use Rattle.replays.specs.declared.rows.ReplayFault.TheVariants.{TooMany};
-ghost use Rattle.replays.specs.Kept.{Reaches, input_of};
+ghost use Rattle.replays.specs.declared.rows.Replayed.TheVariants.{Cost};
+ghost use Rattle.replays.specs.Kept.{Ends, Reaches, input_of};
 ghost use Rattle.replays.specs.Moments.{Input};
 ghost use Rattle.replays.specs.Replayed.{IsInput, IsReplayed, IsTooManyFor};
 
@@ -17,13 +18,14 @@ use flow_table::Table;
 use rankers::Ranker;
 use std::alloc::Global;
 
-/// Serves the coflows of a table as they arrive, by the orders of a ranker: at each multiple of `every` slots the coflows that owe
-/// nothing leave, and the ranker is asked for an order of all coflows, with the loads that those present owe. Before each question but
-/// the first it is told which coflows ended. Those present are served in its order, and who joins later stands behind them. In each slot
-/// the line is served greedily.
+/// Serves the coflows of a table as they arrive, by the orders of a ranker: at each multiple of `every` slots the
+/// coflows that owe nothing leave, and the ranker is asked for an order of all coflows, with the loads that those
+/// present owe. Before each question but the first it is told which coflows ended. Those present are served in its
+/// order, and who joins later stands behind them. In each slot the line is served greedily.
 ///
-/// There is a weight, at most 2^32, and an arrival, at most 2^32 slots, for each coflow, and an epoch has from 1 to 2^40 slots. The
-/// ranker is dropped at the end. The error is want of memory, or that more than 8192 orders would be published.
+/// There is a weight, at most 2^32, and an arrival, at most 2^32 slots, for each coflow, and an epoch has from 1 to
+/// 2^40 slots. The ranker is dropped at the end. The error is want of memory, or that more than 8192 orders would be
+/// published.
 pub fn replay(
     alloc: Global,
     table: &Table,
@@ -48,7 +50,7 @@ pub fn replay(
 }
 
 /// The course over coflows that arrive at these times, before the first action. The error is want of memory.
-fn course_of(alloc: Global, arrivals: &[u64], every: u64) -> Result<Epochs, NoMemory>
+pub(crate) fn course_of(alloc: Global, arrivals: &[u64], every: u64) -> Result<Epochs, NoMemory>
     requires coflows { length arrivals.now ≤ MAX_COFLOWS }
     requires arrivals_fit { All (λ a. a ≤ 2 ^ 32) arrivals.now }
     requires epoch_some { 1 ≤ every }
@@ -61,7 +63,7 @@ fn course_of(alloc: Global, arrivals: &[u64], every: u64) -> Result<Epochs, NoMe
 }
 
 /// Carries out one action after another, up to the end of the replay, or to an answer that is no order.
-fn serve(
+pub(crate) fn serve(
     alloc: Global,
     table: &Table,
     weights: &[u64],
@@ -74,6 +76,9 @@ fn serve(
         (meaning ranker.old) }
     ensures replayed { IfOk result (λ replayed. IsReplayed (input_of table.now weights.now course.old)
         (meaning ranker.old) replayed) }
+    ensures ends { (total : ℕ) → result ≡ Ok (Cost total) →
+        Ends (input_of table.now weights.now course.old) (meaning ranker.old) kept.new }
+    ensures recorded { OnOk result (is_some kept.new.recording ≡ is_some kept.old.recording) }
     ensures too_many { (count : ℕ) → result ≡ Err (TooMany count) →
         IsTooManyFor (input_of table.now weights.now course.old) (meaning ranker.old) count }
 {

@@ -2,10 +2,10 @@
 ghost use Rattle.std.specs.Prelude.{◌≡◌, ◌<◌, ◌≤◌, ◌^◌, ℕ, [], ◌∷◌, All, Contains, Err, IfOk, OnOk, drop, length, map};
 ghost use Rattle.rankers.specs.Meaning.{Meaning};
 ghost use Rattle.report_text.specs.Compared.{IsName};
-ghost use Rattle.replays.specs.declared.rows.ReplayFault.TheVariants.{TooMany};
+ghost use Rattle.replays.specs.declared.rows.ReplayFault.TheVariants.{NoMemory as OutOfMemory, TooMany};
 ghost use Rattle.replays.specs.declared.rows.ReplayRow.{ReplayRow};
 ghost use Rattle.replays.specs.Moments.{Input};
-ghost use Rattle.replays.specs.Replayed.{AreRowsFrom, IsInput, IsTooManyFor};
+ghost use Rattle.replays.specs.Replayed.{AreRowsFrom, IsCutOff, IsInput, IsTooManyFor, StopsAt};
 
 use crate::replaying::replay;
 use coflow_units::{Items, NoMemory};
@@ -26,7 +26,8 @@ pub struct ReplayRow {
 pub enum Replayed {
     /// Each answer was an order of the coflows: the sum of weight times completion, in slots.
     Cost(u128),
-    /// One was none: the number of its publishing, from 1, and the first place, from 1, whose number is not a coflow's or stood earlier.
+    /// One was none: the number of its publishing, from 1, and the first place, from 1, whose number is not a coflow's
+    /// or stood earlier.
     Unfit { epoch: u32, place: u32 },
 }
 
@@ -60,12 +61,14 @@ impl<T: Drop> From<AllocFailed<T>> for ReplayFault {
     }
 }
 
-/// A row for each ranker of a bench, from its own replay alone. There is a weight, at most 2^32, and an arrival, at most 2^32 slots,
-/// for each coflow of the table; an epoch has `every` slots, from 1 to 2^40; and there are fewer than 2^32 rankers.
+/// A row for each ranker of a bench, from its own replay alone. There is a weight, at most 2^32, and an arrival, at
+/// most 2^32 slots, for each coflow of the table; an epoch has `every` slots, from 1 to 2^40; and there are fewer than
+/// 2^32 rankers.
 ///
-/// Each ranker in turn is taken off the bench, replayed and dropped, so on success the bench is empty. The error is want of memory, or
-/// that a replay would publish more than 8192 orders. Then the rankers that were not reached are still there, as they were and in
-/// their order.
+/// Each ranker in turn is taken off the bench, replayed and dropped, so on success the bench is empty. The error is
+/// want of memory, or that a replay would publish more than 8192 orders. Then the rankers that were not reached are
+/// still there, as they were and in their order. The ranker whose replay would publish too many is the last one that
+/// was taken off. After either error the replay of each but the last one that was taken off came to something.
 pub fn replay_all(
     alloc: Global,
     table: &Table,
@@ -86,6 +89,12 @@ pub fn replay_all(
     ensures too_many { (count : ℕ) → result ≡ Err (TooMany count) →
         (ranker : Meaning) × Contains (map (λ b. meaning b) bench.old.items) ranker × IsTooManyFor
         record { table = table.now; weights = weights.now; arrivals = arrivals.now; every = every } ranker count }
+    ensures stops { (count : ℕ) → result ≡ Err (TooMany count) → StopsAt
+        record { table = table.now; weights = weights.now; arrivals = arrivals.now; every = every } count
+        (map (λ b. meaning b) bench.old.items) (map (λ b. meaning b) bench.new.items) }
+    ensures cut_off { result ≡ Err OutOfMemory → IsCutOff
+        record { table = table.now; weights = weights.now; arrivals = arrivals.now; every = every }
+        (map (λ b. meaning b) bench.old.items) (map (λ b. meaning b) bench.new.items) }
 {
     let mut rows = Vec::new(alloc);
     let mut index = 0;
@@ -112,7 +121,7 @@ fn take_first(bench: &mut Vec<Box<dyn Ranker>>) -> Box<dyn Ranker>
 }
 
 /// The name of a ranker.
-fn name_of(alloc: Global, ranker: &Box<dyn Ranker>) -> Result<Items<u8>, NoMemory>
+pub(crate) fn name_of(alloc: Global, ranker: &Box<dyn Ranker>) -> Result<Items<u8>, NoMemory>
     ensures name { IfOk result (λ name. name ≡ (meaning ranker.now).name) }
     ensures letters { IfOk result IsName }
 {

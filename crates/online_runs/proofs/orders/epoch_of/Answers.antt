@@ -1,19 +1,11 @@
-use Rattle.std.proofs.Common.{◌≡◌, ◌∙◌, ℕ, ◌<◌, List, true, ap, arith, length, map, reverse, subst, sym}
-use Rattle.std.specs.Prelude.{All, slice_index}
+use Rattle.std.proofs.Common.{◌≡◌, ◌∙◌, ℕ, ◌<◌, List, ap, map, reverse, subst}
+use Rattle.std.specs.Prelude.{All}
 use Rattle.coflow_units.specs.declared.plan.Place.{Place}
-use Rattle.coflow_units.specs.Certificate.{bound}
-use Rattle.bssi_order.specs.Order.{entries_of}
 use Rattle.journal.specs.Chosen.{the_ordering}
 use Rattle.online_text.specs.declared.value.Epoch.{Epoch}
 use Rattle.online_text.specs.declared.value.OnlinePlace.{OnlinePlace}
 use Rattle.online_runs.specs.Value.{place_line}
-use Rattle.coflow_units.specs.declared.fabric.Flow.{Flow}
-use Rattle.coflow_units.specs.declared.fabric.Port.{Port}
-use Rattle.coflow_units.specs.Flows.{with_units}
-use Rattle.coflow_units.specs.Load.{load}
-use Rattle.port_load.specs.LoadTable.{is_present, load_at}
-use Rattle.dual_cert.specs.TableCertificate.{HasLoadsOf, IsCertificateOf, StaysInBudget}
-use Rattle.online_runs.proofs.Bounds.{certificate, in_budget, is_ordering, loads, order_lines, places_below}
+use Rattle.online_runs.proofs.Bounds.{order_lines, places_below}
 use Rattle.online_runs.proofs.orders.epoch_of.Goals as goal
 
 abbrev epoch : ℕ → List OnlinePlace → ℕ → Epoch
@@ -21,37 +13,6 @@ epoch time places n = record { time = time; places = places; bound = n }
 
 epoch_is : (time : ℕ) (ls ms : List OnlinePlace) (m n : ℕ) → ls ≡ ms → m ≡ n → epoch time ls m ≡ epoch time ms n
 epoch_is time ls ms m n places worth = ap (λ l. epoch time l m) places ∙ ap (epoch time ms) worth
-
-pub bound-bound-requires-clause-certificate : goal.bound-bound-requires-clause-certificate
-bound-bound-requires-clause-certificate c =
-    let (i, weights, inst, order, is, small) = c.requires.order in
-    let t = c.fill_by_coflow.new.self in
-    let coflows : t.coflows ≡ length c.args.present.now = c.fill_by_coflow.ensures.size.coflows ∙ c.requires.coflows ∙ sym c.requires.each_present in
-    let ports : t.ports ≡ c.args.table.now.ports = c.fill_by_coflow.ensures.size.ports ∙ c.requires.ports in
-    let filled : (x : ℕ) (port : Port) → x < t.coflows → port.number < t.ports → is_present c.args.present.now x ≡ true →
-    load_at t x port ≡ load (with_units (λ f. slice_index c.args.left.now f) c.args.table.now.flows) x port =
-    λ x port lt lt' yes. c.fill_by_coflow.ensures.present_are x port
-    (omega (arith, lt, c.fill_by_coflow.ensures.size.coflows)) (omega (arith, lt', c.fill_by_coflow.ensures.size.ports)) yes ∙
-    ap (λ (fs : List Flow). load (with_units (λ f. slice_index c.args.left.now f) fs) x port) c.flows.ensures.flows in
-    subst (IsCertificateOf t) (sym c.in_ok-cert.ensures.from_last)
-    (certificate i c.args.table.now.flows c.args.left.now weights c.args.present.now c.args.table.now.ports c.args.places.now inst order is t coflows ports filled)
-
-pub bound-bound-requires-clause-feasible : goal.bound-bound-requires-clause-feasible
-bound-bound-requires-clause-feasible c =
-    let (i, weights, inst, order, is, small) = c.requires.order in
-    let t = c.fill_by_coflow.new.self in
-    let coflows : t.coflows ≡ length c.args.present.now = c.fill_by_coflow.ensures.size.coflows ∙ c.requires.coflows ∙ sym c.requires.each_present in
-    let ports : t.ports ≡ c.args.table.now.ports = c.fill_by_coflow.ensures.size.ports ∙ c.requires.ports in
-    let filled : (x : ℕ) (port : Port) → x < t.coflows → port.number < t.ports → is_present c.args.present.now x ≡ true →
-    load_at t x port ≡ load (with_units (λ f. slice_index c.args.left.now f) c.args.table.now.flows) x port =
-    λ x port lt lt' yes. c.fill_by_coflow.ensures.present_are x port
-    (omega (arith, lt, c.fill_by_coflow.ensures.size.coflows)) (omega (arith, lt', c.fill_by_coflow.ensures.size.ports)) yes ∙
-    ap (λ (fs : List Flow). load (with_units (λ f. slice_index c.args.left.now f) fs) x port) c.flows.ensures.flows in (
-      weights,
-      small,
-      subst (StaysInBudget t weights) (sym c.in_ok-cert.ensures.from_last)
-          (in_budget i c.args.table.now.flows c.args.left.now weights c.args.present.now c.args.table.now.ports c.args.places.now inst order is t coflows ports filled),
-    )
 
 pub order_lines-requires : goal.order_lines-requires
 order_lines-requires c =
@@ -61,20 +22,7 @@ order_lines-requires c =
 
 pub returns-clause-epoch : goal.returns-clause-epoch
 returns-clause-epoch c = λ i weights inst order is.
-    let t = c.fill_by_coflow.new.self in
-    let coflows : t.coflows ≡ length c.args.present.now = c.fill_by_coflow.ensures.size.coflows ∙ c.requires.coflows ∙ sym c.requires.each_present in
-    let ports : t.ports ≡ c.args.table.now.ports = c.fill_by_coflow.ensures.size.ports ∙ c.requires.ports in
-    let filled : (x : ℕ) (port : Port) → x < t.coflows → port.number < t.ports → is_present c.args.present.now x ≡ true →
-    load_at t x port ≡ load (with_units (λ f. slice_index c.args.left.now f) c.args.table.now.flows) x port =
-    λ x port lt lt' yes. c.fill_by_coflow.ensures.present_are x port
-    (omega (arith, lt, c.fill_by_coflow.ensures.size.coflows)) (omega (arith, lt', c.fill_by_coflow.ensures.size.ports)) yes ∙
-    ap (λ (fs : List Flow). load (with_units (λ f. slice_index c.args.left.now f) fs) x port) c.flows.ensures.flows in
-    let same : entries_of c.args.places.now ≡ the_ordering i = is_ordering i c.args.table.now.flows c.args.left.now weights c.args.present.now c.args.table.now.ports
-    c.args.places.now inst order is in
     let lines : c.from_vec.result ≡ map (place_line c.args.table.now.ids) (reverse (the_ordering i)) =
     c.from_vec.ensures ∙ c.in_ok-lines.ensures ∙
     order_lines i c.args.table.now.flows c.args.left.now weights c.args.present.now c.args.table.now.ports c.args.places.now inst order is c.args.table.now.ids in
-    let has = loads i c.args.table.now.flows c.args.left.now weights c.args.present.now c.args.table.now.ports c.args.places.now inst order is t coflows ports filled in
-    let worth : c.bound-bound.result ≡ bound i.flows (the_ordering i) =
-    c.bound-bound.ensures i.flows (subst (HasLoadsOf i.flows t) (sym c.in_ok-cert.ensures.from_last) has) ∙ ap (bound i.flows) (c.in_ok-cert.ensures.from_last ∙ same) in
-    epoch_is c.args.time _ _ _ _ lines worth
+    epoch_is c.args.time _ _ _ _ lines (c.in_ok-bound.ensures.bound i weights inst order is)

@@ -43,20 +43,20 @@ cost_of-requires-clause-small g c =
 
 pub returns-in_ok-join-in-Register-clause-goes_on : goal.returns-in_ok-join-in-Register-clause-goes_on
 returns-in_ok-join-in-Register-clause-goes_on g c = λ e.
-    goes_joined c.args.table.now c.args.kept.now _ _ c.args.action c.in-Register.coflow c.in-Register.is c.in_ok-join-in-Register.ensures
+    goes_joined c.args.table.now c.args.kept.now _ _ c.args.action c.in-Register.coflow c.in-Register.is c.in_ok-join-in-Register.ensures.tells
 
 pub returns-in-Withdraw-clause-goes_on : goal.returns-in-Withdraw-clause-goes_on
-returns-in-Withdraw-clause-goes_on g c = λ e. goes_left c.args.table.now c.args.kept.now _ _ c.args.action c.in-Withdraw.coflow c.in-Withdraw.is c.leave.ensures
+returns-in-Withdraw-clause-goes_on g c = λ e. goes_left c.args.table.now c.args.kept.now _ _ c.args.action c.in-Withdraw.coflow c.in-Withdraw.is c.leave.ensures.tells
 
-pub returns-in-Run-clause-goes_on : goal.returns-in-Run-clause-goes_on
-returns-in-Run-clause-goes_on g c = λ e. goes_run c.args.table.now c.args.kept.now _ _ c.args.action c.in-Run.most c.in-Run.is c.run.ensures
+pub returns-in_ok-run-in-Run-clause-goes_on : goal.returns-in_ok-run-in-Run-clause-goes_on
+returns-in_ok-run-in-Run-clause-goes_on g c = λ e. goes_run c.args.table.now c.args.kept.now _ _ c.args.action c.in-Run.most c.in-Run.is c.in_ok-run-in-Run.ensures.tells
 
-pub returns-in-Skip-clause-goes_on : goal.returns-in-Skip-clause-goes_on
-returns-in-Skip-clause-goes_on g c = λ e. goes_skipped c.args.table.now c.args.kept.now _ _ c.args.action c.in-Skip.to c.in-Skip.is c.skip.ensures
+pub returns-in_ok-skip-in-Skip-clause-goes_on : goal.returns-in_ok-skip-in-Skip-clause-goes_on
+returns-in_ok-skip-in-Skip-clause-goes_on g c = λ e. goes_skipped c.args.table.now c.args.kept.now _ _ c.args.action c.in-Skip.to c.in-Skip.is c.in_ok-skip-in-Skip.ensures.tells
 
 pub returns-in-None-clause-goes_on : goal.returns-in-None-clause-goes_on
 returns-in-None-clause-goes_on g c = λ e.
-    goes_published c.args.table.now c.args.kept.now _ _ _ c.args.action c.in_ok-place-in-Publish.field-0 c.in-Publish.is c.in-None.is c.in_ok-place-in-Publish.ensures
+    goes_published c.args.table.now c.args.kept.now _ _ _ c.args.action c.in_ok-place-in-Publish.field-0 c.in-Publish.is c.in-None.is c.in_ok-place-in-Publish.ensures.publishes
 
 pub returns-in-Some-clause-ends : goal.returns-in-Some-clause-ends
 returns-in-Some-clause-ends g c = λ replayed e.
@@ -64,7 +64,7 @@ returns-in-Some-clause-ends g c = λ replayed e.
     let same : Unfit epoch c.in-Some.place ≡ replayed = cc in
     subst (EndsAs c.args.table.now c.args.weights.now c.args.kept.now _ c.args.action) same
     (ends_unfit c.args.table.now c.args.weights.now c.args.kept.now _ _ _ c.args.action c.in_ok-place-in-Publish.field-0 epoch c.in-Some.place c.in-Publish.is c.in-Some.is refl
-    c.in_ok-place-in-Publish.ensures)
+    c.in_ok-place-in-Publish.ensures.publishes)
 
 pub returns-in-End-clause-ends : goal.returns-in-End-clause-ends
 returns-in-End-clause-ends g c = λ replayed e.

@@ -3,8 +3,8 @@ use Rattle.coflow_units.proofs.Fronts.{written_back}
 use Rattle.replays.proofs.Tellings.{told_on}
 use Rattle.replays.proofs.publishing.tell.Goals as goal
 
-pub returns : goal.returns
-returns g c = λ x m at.
+pub returns-clause-tells : goal.returns-clause-tells
+returns-clause-tells g c = λ x m at.
     let old = c.args.kept.now in
     let fits = at.tells.fits in
     let count = ap (λ (l : List ℕ). length l) c.deref_mut.ensures.value ∙ fits.each_place in
@@ -21,4 +21,4 @@ returns g c = λ x m at.
       each_place = ap (λ (l : List ℕ). length l) (written_back old.questions.answer.len c.tell_news.new.order old.questions.answer.items
           (c.tell_news.auto.order ∙ c.deref_mut.ensures.len))
           ∙ c.tell_news.auto.order ∙ count;
-    }) refl
+    }) refl refl

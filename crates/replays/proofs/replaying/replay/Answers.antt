@@ -18,7 +18,7 @@ serve-requires-clause-reaches g c =
     let ranker : Meaning = (goal.Ranker-dyn g (c.args.ranker.vtable, c.args.ranker.value)).meaning c.args.ranker.value in
     subst (λ (s : Course). Reaches (input_of c.args.table.now c.args.weights.now s) ranker s c.in_ok-kept.kept ranker) (sym c.in_ok-course.ensures)
     (reaches_first (input_of c.args.table.now c.args.weights.now first) ranker first c.in_ok-kept.kept c.requires.input refl
-    (c.in_ok-kept.ensures (input_of c.args.table.now c.args.weights.now first) ranker c.requires.input refl refl))
+    (c.in_ok-kept.ensures.tells (input_of c.args.table.now c.args.weights.now first) ranker c.requires.input refl refl))
 
 pub returns-clause-replayed : goal.returns-clause-replayed
 returns-clause-replayed g c =

@@ -1,4 +1,4 @@
-use Rattle.std.proofs.Common.{◌≤◌, ℕ, List, length, sym, subst}
+use Rattle.std.proofs.Common.{◌≤◌, ℕ, List, length, sym, ap, subst}
 use Rattle.std.specs.Prelude.{map, reverse, slice_index}
 use Rattle.coflow_units.specs.Flows.{Instance}
 use Rattle.flow_table.specs.Table.{instance_of}
@@ -10,6 +10,7 @@ use Rattle.replays.specs.Replayed.{AreRowsFrom}
 use Rattle.replays.proofs.Numbers.{numbers_differ}
 use Rattle.replays.proofs.RowCosts.{rows_at_least}
 use Rattle.replays.proofs.RowRankers.{has_row}
+use Rattle.replays.proofs.TakenBenches.{all_taken}
 use Rattle.replays.proofs.reporting.replays_text.Goals as goal
 
 pub returns-clause-text : goal.returns-clause-text
@@ -40,3 +41,9 @@ returns-clause-few g c = λ ranker count has too_many.
     let bench : List Meaning = map (λ b. (goal.Ranker-dyn g (b.vtable, b.value)).meaning b.value) c.args.bench.now.items in
     let (result, replayed) = has_row x 1 bench c.in_ok-rows.rows.items ranker c.in_ok-rows.ensures.rows has in
     c.replays_are_one.ensures.too_many x ranker result count c.requires.input replayed too_many
+
+pub returns-in_err-text-clause-cut_off : goal.returns-in_err-text-clause-cut_off
+returns-in_err-text-clause-cut_off g c = λ e.
+    let x : Input = record { table = c.args.table.now; weights = c.args.weights.now; arrivals = c.args.arrivals.now; every = c.args.every } in
+    let bench : List Meaning = map (λ b. (goal.Ranker-dyn g (b.vtable, b.value)).meaning b.value) c.args.bench.now.items in
+    all_taken x bench _ c.in_ok-rows.rows.items c.in_ok-rows.ensures.rows (ap (map (λ b. (goal.Ranker-dyn g (b.vtable, b.value)).meaning b.value)) c.in_ok-rows.ensures.empty)

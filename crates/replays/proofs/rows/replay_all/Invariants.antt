@@ -1,5 +1,5 @@
 -- the rows so far are those of the rankers that were reached, and the others are on the bench
-use Rattle.std.proofs.Common.{◌≡◌, ◌+◌, ◌<◌, List, ◌++◌, drop, length}
+use Rattle.std.proofs.Common.{◌≡◌, ◌+◌, ◌<◌, List, ◌++◌, drop, length, take}
 use Rattle.std.specs.Prelude.{All, map}
 use Rattle.report_text.specs.Compared.{IsName}
 use Rattle.replays.specs.declared.rows.ReplayRow.{ReplayRow}
@@ -15,6 +15,8 @@ invariant-rankers g l = record {
       (map (λ b. (goal.Ranker-dyn g (b.vtable, b.value)).meaning b.value) l.bench.items) tail →
       AreRowsFrom (record { table = l.table; weights = l.weights; arrivals = l.arrivals; every = l.every }) 1
       (map (λ b. (goal.Ranker-dyn g (b.vtable, b.value)).meaning b.value) l.fn.bench.items) (l.rows.items ++ tail);
+  taken : AreRowsFrom (record { table = l.table; weights = l.weights; arrivals = l.arrivals; every = l.every }) 1
+      (map (λ b. (goal.Ranker-dyn g (b.vtable, b.value)).meaning b.value) (take l.index l.fn.bench.items)) l.rows.items;
   names : All (λ (row : ReplayRow). IsName row.name) l.rows.items;
 }
 

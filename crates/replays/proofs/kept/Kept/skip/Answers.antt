@@ -9,5 +9,5 @@ overflow_sub-self c =
     let (later, most, some) = skip_time x m c.args.to at.input at.holds does.applies in
     omega (arith, some)
 
-pub returns : goal.returns
-returns c = λ x m at does. skipped_tells x m c.args.to c.args.self.now _ at does refl refl refl refl refl refl refl
+pub returns-clause-tells : goal.returns-clause-tells
+returns-clause-tells c = λ x m at does. skipped_tells x m c.args.to c.args.self.now _ at does refl refl refl refl refl refl refl c.in_ok-record_run.ensures
