@@ -2,7 +2,7 @@
 use Rattle.std.proofs.Common.{◌≡◌, ◌≢◌, ℕ, ◌^◌, ◌≤◌, List, Option, Some, None, length, refl, sym, subst, ◌∙◌}
 use Rattle.std.specs.Prelude.{IfSome}
 use Rattle.command_words.specs.Jobs.{Job, order_name, report_name, script_name, trace_name}
-use Rattle.command_words.specs.Jobs.Job.{audit_job, check_job, classes_job, compare_job, live_job, make_job, online_job, plan_job, replay_job, serve_job}
+use Rattle.command_words.specs.Jobs.Job.{audit_job, check_job, classes_job, compare_job, live_job, make_job, online_job, plan_job, record_job, replay_job, serve_job}
 use Rattle.command_words.specs.Words.{Said}
 use Rattle.coflow_units.specs.declared.limits.TheConstants.{MAX_REPORT}
 use Rattle.coflow_units.specs.declared.quantity.Quantity.{Quantity}
@@ -40,6 +40,7 @@ input_cause IsBad before now old new said status.NoMemory h = tt
 input_cause IsBad before now old new said status.Ok h = absurd h
 input_cause IsBad before now old new said status.No h = absurd h
 input_cause IsBad before now old new said status.Usage h = absurd h
+input_cause IsBad before now old new said status.UnknownPolicy h = absurd h
 input_cause IsBad before now old new said (status.BadReport line) h = absurd h
 input_cause IsBad before now old new said (status.BadScript line field) h = absurd h
 input_cause IsBad before now old new said (status.BadOrder fault) h = absurd h
@@ -114,6 +115,7 @@ report_bytes (online_job trace) none = refl
 report_bytes (live_job trace script) none = refl
 report_bytes (serve_job trace order) none = let clash : Some order ≡ None = none in cc
 report_bytes (replay_job trace) none = refl
+report_bytes (record_job trace policy) none = refl
 
 -- the other file of a job, which is longer than those that are read
 pub long_other : (old mid : Option Told) (said : Said) (name : List ℕ) (which : Quantity) (count : ℕ) → report_name said.job ≡ Some name → KeepsFiles old mid →
@@ -156,6 +158,7 @@ module _ (IsBad : List ℕ → ℕ → Type 0) (before mid_count now : ℕ) (old
   from_report status.Ok is none le keeps table h = absurd h
   from_report status.No is none le keeps table h = absurd h
   from_report status.Usage is none le keeps table h = absurd h
+  from_report status.UnknownPolicy is none le keeps table h = absurd h
   from_report (status.BadTrace fault) is none le keeps table h = absurd h
   from_report (status.BadWeights fault) is none le keeps table h = absurd h
   from_report (status.BadScript line field) is none le keeps table h = absurd h

@@ -2,7 +2,7 @@
 use Rattle.std.proofs.Common.{◌≡◌, ℕ, List, Option, Some, None, refl, sym, subst, ◌∙◌}
 use Rattle.std.specs.Prelude.{IfSome}
 use Rattle.command_words.specs.Jobs.{Job, report_name, script_name, trace_name}
-use Rattle.command_words.specs.Jobs.Job.{audit_job, check_job, classes_job, compare_job, live_job, make_job, online_job, plan_job, replay_job, serve_job}
+use Rattle.command_words.specs.Jobs.Job.{audit_job, check_job, classes_job, compare_job, live_job, make_job, online_job, plan_job, record_job, replay_job, serve_job}
 use Rattle.command_words.specs.Words.{Said}
 use Rattle.outside.specs.declared.shelf.Place4.TheVariants as place
 use Rattle.outside.specs.Shelf.{Told}
@@ -61,6 +61,7 @@ report_alone (online_job trace) name is = refl
 report_alone (live_job trace script) name is = cc
 report_alone (serve_job trace order) name is = refl
 report_alone (replay_job trace) name is = refl
+report_alone (record_job trace policy) name is = refl
 
 -- a file that is read in the place of the report after trace and weights
 pub other_in_turn : (old mid new : Option Told) (said : Said) (name : List ℕ) (s : Status) → report_name said.job ≡ Some name → KeepsFiles old mid →

@@ -183,5 +183,6 @@ files_end before now t new said status.NoMemory cause table report script order 
 files_end before now t new said status.Ok cause table report script order still = absurd cause
 files_end before now t new said status.No cause table report script order still = absurd cause
 files_end before now t new said status.Usage cause table report script order still = absurd cause
+files_end before now t new said status.UnknownPolicy cause table report script order still = absurd cause
 files_end before now t new said (status.WriteFault count) cause table report script order still = absurd cause
 files_end before now t new said (status.WireFault port count) cause table report script order still = absurd cause

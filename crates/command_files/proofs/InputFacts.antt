@@ -102,6 +102,7 @@ from_trace before now old new name file unit (status.ReadFault count) (one, rose
 from_trace before now old new name file unit status.NoMemory cause = tt
 from_trace before now old new name file unit status.Ok cause = absurd cause
 from_trace before now old new name file unit status.Usage cause = absurd cause
+from_trace before now old new name file unit status.UnknownPolicy cause = absurd cause
 from_trace before now old new name file unit status.No cause = absurd cause
 from_trace before now old new name file unit (status.BadReport line) cause = absurd cause
 from_trace before now old new name file unit (status.BadScript line field) cause = absurd cause
@@ -141,6 +142,7 @@ module _ (before mid_count now : â„•) (old mid new : Option Told) (name : List â
   from_weights status.NoMemory le keeps read h = tt
   from_weights status.Ok le keeps read h = absurd h
   from_weights status.Usage le keeps read h = absurd h
+  from_weights status.UnknownPolicy le keeps read h = absurd h
   from_weights status.No le keeps read h = absurd h
   from_weights (status.BadReport line) le keeps read h = absurd h
   from_weights (status.BadScript line field) le keeps read h = absurd h

@@ -81,6 +81,7 @@ fails_if old new name Q (status.ReadFault count) q h = both_joined old new (Name
 fails_if old new name Q status.Ok q h = of_both old new Q (λ a b. FailsAt name status.Ok a b × Q a b) (λ a b x. (tt, x)) q
 fails_if old new name Q status.No q h = of_both old new Q (λ a b. FailsAt name status.No a b × Q a b) (λ a b x. (tt, x)) q
 fails_if old new name Q status.Usage q h = of_both old new Q (λ a b. FailsAt name status.Usage a b × Q a b) (λ a b x. (tt, x)) q
+fails_if old new name Q status.UnknownPolicy q h = of_both old new Q (λ a b. FailsAt name status.UnknownPolicy a b × Q a b) (λ a b x. (tt, x)) q
 fails_if old new name Q (status.BadTrace fault) q h = of_both old new Q (λ a b. FailsAt name (status.BadTrace fault) a b × Q a b) (λ a b x. (tt, x)) q
 fails_if old new name Q (status.BadWeights fault) q h = of_both old new Q (λ a b. FailsAt name (status.BadWeights fault) a b × Q a b) (λ a b x. (tt, x)) q
 fails_if old new name Q (status.BadReport line) q h = of_both old new Q (λ a b. FailsAt name (status.BadReport line) a b × Q a b) (λ a b x. (tt, x)) q

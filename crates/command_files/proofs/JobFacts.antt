@@ -1,7 +1,7 @@
 -- The causes of the statuses of a command whose job says what its other file is.
 use Rattle.std.proofs.Common.{◌≡◌, ◌<◌, ℕ, List, Option, arith, refl}
 use Rattle.command_words.specs.Jobs.{Job, trace_name}
-use Rattle.command_words.specs.Jobs.Job.{audit_job, check_job, classes_job, compare_job, live_job, make_job, online_job, plan_job, replay_job, serve_job}
+use Rattle.command_words.specs.Jobs.Job.{audit_job, check_job, classes_job, compare_job, live_job, make_job, online_job, plan_job, record_job, replay_job, serve_job}
 use Rattle.command_words.specs.Words.{Said}
 use Rattle.coflow_units.specs.declared.limits.TheConstants.{MAX_REPORT}
 use Rattle.outside.specs.Shelf.{Told}
@@ -30,6 +30,7 @@ bad_line_one (online_job trace) bytes m n x y = any_line_one bytes m n x y
 bad_line_one (live_job trace script) bytes m n x y = any_line_one bytes m n x y
 bad_line_one (serve_job trace order) bytes m n x y = absurd x
 bad_line_one (replay_job trace) bytes m n x y = any_line_one bytes m n x y
+bad_line_one (record_job trace policy) bytes m n x y = any_line_one bytes m n x y
 bad_line_one (audit_job trace journal) bytes m n x y =
     let not_less : (m < n → ⊥) = λ less. x.here (y.before m less) in
     let not_more : (n < m → ⊥) = λ less. y.here (x.before n less) in
@@ -47,3 +48,4 @@ bad_bytes (online_job trace) bytes line bad = refl
 bad_bytes (live_job trace script) bytes line bad = refl
 bad_bytes (serve_job trace order) bytes line bad = absurd bad
 bad_bytes (replay_job trace) bytes line bad = refl
+bad_bytes (record_job trace policy) bytes line bad = refl

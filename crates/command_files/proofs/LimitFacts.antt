@@ -3,7 +3,7 @@ use Rattle.std.proofs.Common.{◌≡◌, ℕ, ◌+◌, drop, length, Bool, true,
 use Rattle.std.specs.Prelude.{codes, cond}
 use Rattle.std.specs.List.{flat_map, range_with_len}
 use Rattle.command_words.specs.Jobs.{Job, script_name}
-use Rattle.command_words.specs.Jobs.Job.{audit_job, check_job, classes_job, compare_job, live_job, make_job, online_job, plan_job, replay_job, serve_job}
+use Rattle.command_words.specs.Jobs.Job.{audit_job, check_job, classes_job, compare_job, live_job, make_job, online_job, plan_job, record_job, replay_job, serve_job}
 use Rattle.coflow_units.specs.declared.quantity.Quantity.{Quantity}
 use Rattle.coflow_units.specs.declared.quantity.Quantity.TheVariants.{Text}
 use Rattle.coflow_units.specs.declared.trace.CoflowLine.{CoflowLine}
@@ -170,3 +170,4 @@ job_may (audit_job trace journal) name which is may = let clash : None ≡ Some 
 job_may (online_job trace) name which is may = let clash : None ≡ Some name = is in cc
 job_may (serve_job trace order) name which is may = let clash : None ≡ Some name = is in cc
 job_may (replay_job trace) name which is may = let clash : None ≡ Some name = is in cc
+job_may (record_job trace policy) name which is may = let clash : None ≡ Some name = is in cc

@@ -122,6 +122,7 @@ module _ (IsBad : List ℕ → ℕ → Type 0) (before mid_count now : ℕ) (old
   from_script status.Ok le h = absurd h
   from_script status.No le h = absurd h
   from_script status.Usage le h = absurd h
+  from_script status.UnknownPolicy le h = absurd h
   from_script (status.BadTrace fault) le h = absurd h
   from_script (status.BadWeights fault) le h = absurd h
   from_script (status.BadReport line) le h = absurd h

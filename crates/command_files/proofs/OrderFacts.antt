@@ -67,6 +67,7 @@ module _ (ids : List ℕ) (before now : ℕ) (old new : Option Told) (name : Lis
   file_to_order status.Ok h = absurd h
   file_to_order status.No h = absurd h
   file_to_order status.Usage h = absurd h
+  file_to_order status.UnknownPolicy h = absurd h
   file_to_order (status.BadTrace fault) h = absurd h
   file_to_order (status.BadWeights fault) h = absurd h
   file_to_order (status.BadReport line) h = absurd h

@@ -54,6 +54,7 @@ module _ (before mid_count now : ℕ) (old mid new : Option Told) (said : Said) 
   from_order IsBad status.Ok most le h = absurd h
   from_order IsBad status.No most le h = absurd h
   from_order IsBad status.Usage most le h = absurd h
+  from_order IsBad status.UnknownPolicy most le h = absurd h
   from_order IsBad (status.BadTrace fault) most le h = absurd h
   from_order IsBad (status.BadWeights fault) most le h = absurd h
   from_order IsBad (status.BadReport line) most le h = absurd h

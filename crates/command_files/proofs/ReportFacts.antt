@@ -84,6 +84,7 @@ file_to_report IsBad before now old new name status.NoMemory h = tt
 file_to_report IsBad before now old new name status.Ok h = absurd h
 file_to_report IsBad before now old new name status.No h = absurd h
 file_to_report IsBad before now old new name status.Usage h = absurd h
+file_to_report IsBad before now old new name status.UnknownPolicy h = absurd h
 file_to_report IsBad before now old new name (status.BadTrace fault) h = absurd h
 file_to_report IsBad before now old new name (status.BadWeights fault) h = absurd h
 file_to_report IsBad before now old new name (status.BadReport line) h = absurd h

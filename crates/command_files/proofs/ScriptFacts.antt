@@ -75,6 +75,7 @@ module _ (ids : List ℕ) (before now : ℕ) (old new : Option Told) (name : Lis
   file_to_script status.Ok h = absurd h
   file_to_script status.No h = absurd h
   file_to_script status.Usage h = absurd h
+  file_to_script status.UnknownPolicy h = absurd h
   file_to_script (status.BadTrace fault) h = absurd h
   file_to_script (status.BadWeights fault) h = absurd h
   file_to_script (status.BadReport line) h = absurd h

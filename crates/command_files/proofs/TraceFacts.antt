@@ -67,6 +67,7 @@ file_to_trace before now old new name (status.ReadFault count) cause = cause
 file_to_trace before now old new name status.NoMemory cause = tt
 file_to_trace before now old new name status.Ok cause = absurd cause
 file_to_trace before now old new name status.Usage cause = absurd cause
+file_to_trace before now old new name status.UnknownPolicy cause = absurd cause
 file_to_trace before now old new name status.No cause = absurd cause
 file_to_trace before now old new name (status.BadReport line) cause = absurd cause
 file_to_trace before now old new name (status.BadScript line field) cause = absurd cause

@@ -65,6 +65,7 @@ file_to_weights before now old new name coflows (status.ReadFault count) cause =
 file_to_weights before now old new name coflows status.NoMemory cause = tt
 file_to_weights before now old new name coflows status.Ok cause = absurd cause
 file_to_weights before now old new name coflows status.Usage cause = absurd cause
+file_to_weights before now old new name coflows status.UnknownPolicy cause = absurd cause
 file_to_weights before now old new name coflows status.No cause = absurd cause
 file_to_weights before now old new name coflows (status.BadReport line) cause = absurd cause
 file_to_weights before now old new name coflows (status.BadScript line field) cause = absurd cause

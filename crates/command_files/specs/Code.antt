@@ -1,7 +1,7 @@
 -- The exit codes.
 use Rattle.std.specs.Prelude.{ℕ}
 use Rattle.command_files.specs.declared.status.Status.{Status}
-use Rattle.command_files.specs.declared.status.Status.TheVariants.{Ok, No, Usage, BadTrace, BadWeights, BadReport, BadScript, Limit, ReadFault, WriteFault, WireFault, NoMemory, BadOrder}
+use Rattle.command_files.specs.declared.status.Status.TheVariants.{Ok, No, Usage, BadTrace, BadWeights, BadReport, BadScript, Limit, ReadFault, WriteFault, WireFault, NoMemory, BadOrder, UnknownPolicy}
 
 -- the exit code of a status
 abbrev pub code_of : Status → ℕ
@@ -18,3 +18,4 @@ code_of (WriteFault count) = 9
 code_of (WireFault port count) = 10
 code_of NoMemory = 11
 code_of (BadOrder fault) = 12
+code_of UnknownPolicy = 13

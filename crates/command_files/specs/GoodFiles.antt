@@ -1,6 +1,6 @@
 -- The files of a command that have no fault.
 use Rattle.command_words.specs.Jobs.{Job, report_name}
-use Rattle.command_words.specs.Jobs.Job.{audit_job, check_job, classes_job, compare_job, live_job, make_job, online_job, plan_job, replay_job, serve_job}
+use Rattle.command_words.specs.Jobs.Job.{audit_job, check_job, classes_job, compare_job, live_job, make_job, online_job, plan_job, record_job, replay_job, serve_job}
 use Rattle.command_words.specs.Words.{Said}
 use Rattle.outside.specs.Shelf.{Told}
 use Rattle.command_files.specs.Causes.{FilesGiveOrder, FilesGiveScript, FilesGiveTable}
@@ -20,3 +20,4 @@ HasGoodFiles (online_job trace) said t = FilesGiveTable said t
 HasGoodFiles (live_job trace script) said t = FilesGiveScript said t
 HasGoodFiles (serve_job trace order) said t = FilesGiveOrder said t
 HasGoodFiles (replay_job trace) said t = FilesGiveTable said t
+HasGoodFiles (record_job trace policy) said t = FilesGiveTable said t

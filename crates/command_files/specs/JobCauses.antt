@@ -1,7 +1,7 @@
 -- What is wrong with the files of a command, where its job says what its other file is.
 use Rattle.std.specs.Prelude.{ℕ, List, Option}
 use Rattle.command_words.specs.Jobs.{Job}
-use Rattle.command_words.specs.Jobs.Job.{audit_job, check_job, classes_job, compare_job, live_job, make_job, online_job, plan_job, replay_job, serve_job}
+use Rattle.command_words.specs.Jobs.Job.{audit_job, check_job, classes_job, compare_job, live_job, make_job, online_job, plan_job, record_job, replay_job, serve_job}
 use Rattle.command_words.specs.Words.{Said}
 use Rattle.live_text.specs.Reading.{IsBadAt}
 use Rattle.outside.specs.Shelf.{Told}
@@ -23,6 +23,7 @@ IsBadFor (online_job trace) = IsAnyBadAt
 IsBadFor (live_job trace script) = IsAnyBadAt
 IsBadFor (serve_job trace order) = λ text line. ⊥
 IsBadFor (replay_job trace) = IsAnyBadAt
+IsBadFor (record_job trace policy) = IsAnyBadAt
 
 -- the files give a table, and this is the first line of the other file that no such text has
 abbrev pub FilesReportFault : Said → ℕ → Told → Type 0

@@ -1,7 +1,7 @@
 -- Which quantities a command may find outside their ranges.
 use Rattle.std.specs.Prelude.{List, ℕ}
 use Rattle.command_words.specs.Jobs.{Job}
-use Rattle.command_words.specs.Jobs.Job.{live_job, online_job, replay_job, serve_job}
+use Rattle.command_words.specs.Jobs.Job.{live_job, online_job, record_job, replay_job, serve_job}
 use Rattle.coflow_units.specs.declared.limits.TheConstants.{MAX_REPORT, MAX_TEXT}
 use Rattle.coflow_units.specs.declared.quantity.Quantity.{Quantity}
 use Rattle.coflow_units.specs.declared.quantity.Quantity.TheVariants.{Clients, Commands, Epochs}
@@ -10,6 +10,7 @@ use Rattle.coflow_units.specs.declared.quantity.Quantity.TheVariants.{Clients, C
 abbrev pub ServesArrivals : Job → Type 0
 ServesArrivals (online_job trace) = Unit {0}
 ServesArrivals (replay_job trace) = Unit {0}
+ServesArrivals (record_job trace policy) = Unit {0}
 ServesArrivals job = ⊥
 
 -- the job is a script of clients

@@ -10,7 +10,7 @@ use Rattle.trace_reader.specs.declared.fault.TraceFault.TheVariants as trace
 use Rattle.weights.specs.declared.fault.WeightsFault.{WeightsFault}
 use Rattle.weights.specs.declared.fault.WeightsFault.TheVariants as weight
 use Rattle.command_files.specs.declared.status.Status.{Status}
-use Rattle.command_files.specs.declared.status.Status.TheVariants.{Ok, No, Usage, BadTrace, BadWeights, BadReport, BadScript, Limit, ReadFault, WriteFault, WireFault, NoMemory, BadOrder}
+use Rattle.command_files.specs.declared.status.Status.TheVariants.{Ok, No, Usage, BadTrace, BadWeights, BadReport, BadScript, Limit, ReadFault, WriteFault, WireFault, NoMemory, BadOrder, UnknownPolicy}
 
 -- the name of a quantity
 abbrev pub name_of : Quantity → List ℕ
@@ -78,3 +78,4 @@ status_text (WriteFault count) = codes "write fault"
 status_text (WireFault port count) = codes "wire fault at port " ++ decimal port
 status_text NoMemory = codes "no memory"
 status_text (BadOrder fault) = order_text fault
+status_text UnknownPolicy = codes "policy: no ranker of this name"

@@ -31,6 +31,7 @@ impl fmt::Display for Status {
             Status::WireFault { port, count: _ } => write!(f, "wire fault at port {port}"),
             Status::NoMemory => f.write_str("no memory"),
             Status::BadOrder(fault) => write_order_fault(f, *fault),
+            Status::UnknownPolicy => f.write_str("policy: no ranker of this name"),
         }
     }
 }

@@ -17,7 +17,9 @@ use workload::ScriptFault;
 pub enum Status {
     /// The text was written whole. The answer of `check` or `audit` is yes.
     Ok,
-    /// The report or the printed journal is not right. The line with the first reason was written whole.
+    /// The report or the printed journal is not right, and the line with the first reason was written whole; or the
+    /// ranker whose replay is to be recorded answered a question with no order, and the report of its replay was
+    /// written whole.
     No,
     /// The words are no command.
     Usage,
@@ -45,6 +47,8 @@ pub enum Status {
     NoMemory,
     /// The file is no order of the trace's coflows. The fault is the first in reading order, and one of form.
     BadOrder(OrderFault),
+    /// The option `--policy` of `replay` names no ranker of the bench. No file was looked at.
+    UnknownPolicy,
 }
 
 impl Status {
@@ -66,6 +70,7 @@ impl Status {
             Status::WireFault { port: _, count: _ } => 10,
             Status::NoMemory => 11,
             Status::BadOrder(_) => 12,
+            Status::UnknownPolicy => 13,
         }
     }
 }

@@ -6,6 +6,7 @@ use Rattle.command_files.specs.declared.status.Status.TheVariants as status
 use Rattle.coflow_units.specs.declared.quantity.Quantity.TheVariants.{Epochs}
 use Rattle.command_jobs.specs.Make.{HasMadeCause}
 use Rattle.command_jobs.specs.Online.{IsEpochsCause}
+use Rattle.command_jobs.specs.Record.{IsPolicyCause}
 use Rattle.command_files.specs.WireCauses.{IsWireCause}
 
 -- a wire fault
@@ -14,6 +15,7 @@ by_wire P (status.WireFault port count) (one, p) = (port, count, refl, p)
 by_wire P status.Ok cause = absurd cause
 by_wire P status.No cause = absurd cause
 by_wire P status.Usage cause = absurd cause
+by_wire P status.UnknownPolicy cause = absurd cause
 by_wire P (status.BadTrace fault) cause = absurd cause
 by_wire P (status.BadWeights fault) cause = absurd cause
 by_wire P (status.BadReport line) cause = absurd cause
@@ -30,6 +32,7 @@ by_epochs P (status.Limit which count) (is, p) = (count, ap (λ w. status.Limit 
 by_epochs P status.Ok cause = absurd cause
 by_epochs P status.No cause = absurd cause
 by_epochs P status.Usage cause = absurd cause
+by_epochs P status.UnknownPolicy cause = absurd cause
 by_epochs P (status.BadTrace fault) cause = absurd cause
 by_epochs P (status.BadWeights fault) cause = absurd cause
 by_epochs P (status.BadReport line) cause = absurd cause
@@ -40,12 +43,30 @@ by_epochs P (status.ReadFault count) cause = absurd cause
 by_epochs P (status.WriteFault count) cause = absurd cause
 by_epochs P status.NoMemory cause = absurd cause
 
+-- a policy that no ranker has
+pub by_policy : (P : Type 0) (s : Status) → IsPolicyCause P s → (s ≡ status.UnknownPolicy) × P
+by_policy P status.UnknownPolicy p = (refl, p)
+by_policy P status.Ok cause = absurd cause
+by_policy P status.No cause = absurd cause
+by_policy P status.Usage cause = absurd cause
+by_policy P (status.BadTrace fault) cause = absurd cause
+by_policy P (status.BadWeights fault) cause = absurd cause
+by_policy P (status.BadReport line) cause = absurd cause
+by_policy P (status.BadScript line field) cause = absurd cause
+by_policy P (status.BadOrder fault) cause = absurd cause
+by_policy P (status.Limit which count) cause = absurd cause
+by_policy P (status.WireFault port count) cause = absurd cause
+by_policy P (status.ReadFault count) cause = absurd cause
+by_policy P (status.WriteFault count) cause = absurd cause
+by_policy P status.NoMemory cause = absurd cause
+
 -- want of memory
 pub by_made : (s : Status) → HasMadeCause s → s ≡ status.NoMemory
 by_made status.NoMemory cause = refl
 by_made status.Ok cause = absurd cause
 by_made status.No cause = absurd cause
 by_made status.Usage cause = absurd cause
+by_made status.UnknownPolicy cause = absurd cause
 by_made (status.BadTrace fault) cause = absurd cause
 by_made (status.BadWeights fault) cause = absurd cause
 by_made (status.BadReport line) cause = absurd cause

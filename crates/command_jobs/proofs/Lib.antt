@@ -8,6 +8,7 @@ pub mod MadePlan
 pub mod OnlineFacts
 pub mod OrderedFacts
 pub mod PlanFacts
+pub mod PolicyFacts
 pub mod PublishingFacts
 pub mod ReplayFacts
 pub mod WireFacts

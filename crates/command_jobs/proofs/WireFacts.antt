@@ -32,6 +32,7 @@ input_no_wire before now old new trace file unit (status.WireFault port count) c
 input_no_wire before now old new trace file unit status.Ok cause wire = wire
 input_no_wire before now old new trace file unit status.No cause wire = wire
 input_no_wire before now old new trace file unit status.Usage cause wire = wire
+input_no_wire before now old new trace file unit status.UnknownPolicy cause wire = wire
 input_no_wire before now old new trace file unit (status.BadTrace fault) cause wire = wire
 input_no_wire before now old new trace file unit (status.BadWeights fault) cause wire = wire
 input_no_wire before now old new trace file unit (status.BadReport line) cause wire = wire
@@ -52,6 +53,7 @@ files_no_wire before now old new said (status.WireFault port count) cause wire =
 files_no_wire before now old new said status.Ok cause wire = wire
 files_no_wire before now old new said status.No cause wire = wire
 files_no_wire before now old new said status.Usage cause wire = wire
+files_no_wire before now old new said status.UnknownPolicy cause wire = wire
 files_no_wire before now old new said (status.BadTrace fault) cause wire = wire
 files_no_wire before now old new said (status.BadWeights fault) cause wire = wire
 files_no_wire before now old new said (status.BadReport line) cause wire = wire

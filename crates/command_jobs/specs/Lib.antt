@@ -8,5 +8,6 @@ pub mod Online
 pub mod Ordered
 pub mod Plan
 pub mod Publishing
+pub mod Record
 pub mod Replay
 pub mod Serving

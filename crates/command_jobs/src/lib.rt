@@ -11,6 +11,7 @@ mod making;
 mod onlining;
 mod ordering;
 mod planning;
+mod recording;
 mod replaying;
 mod serving;
 
@@ -23,4 +24,5 @@ pub use making::make_workload;
 pub use onlining::run_online;
 pub use ordering::serve_order;
 pub use planning::plan_trace;
+pub use recording::record_policy;
 pub use replaying::replay_rankers;

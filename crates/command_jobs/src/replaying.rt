@@ -112,7 +112,7 @@ fn replays_of<'a>(
 }
 
 /// The status of a fault of replays.
-fn status_of(fault: ReplayFault) -> Status
+pub(crate) fn status_of(fault: ReplayFault) -> Status
     ensures { IsStatusOfReplay fault result }
 {
     match fault {

@@ -1,5 +1,6 @@
 pub mod AcceptedLines
 pub mod Forms
+pub mod FoundWords
 pub mod JobNames
 pub mod OneMeaning
 pub mod ParserArguments

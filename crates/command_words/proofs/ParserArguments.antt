@@ -63,6 +63,9 @@ is_classes = record { argument = record { long = Some (codes "classes"); require
 is_fold : IsOption (codes "fold")
 is_fold = record { argument = record { long = Some (codes "fold"); required = false; index = None; by_id = refl }; by_long = refl }
 
+is_policy : IsOption (codes "policy")
+is_policy = record { argument = record { long = Some (codes "policy"); required = false; index = None; by_id = refl }; by_long = refl }
+
 is_command : IsName 1 (codes "COMMAND")
 is_command = record { argument = record { long = None; required = true; index = Some 1; by_id = refl }; required = true; by_index = refl; next = refl }
 
@@ -75,40 +78,42 @@ is_second = record { argument = record { long = None; required = false; index = 
 same_name : (P : Text → Type 0) (name o : Text) → P name → bytes_eq name o ≡ true → P o
 same_name P name o h e = subst P ((bytes_eq-Decides name o).0 e) h
 
--- The eight tests of a name, and what they come to.
+-- The nine tests of a name, and what they come to.
 pub option_of : (o : Text) → is_option o ≡ true → IsOption o
 option_of o h = by (bytes_eq (codes "weights") o) (bytes_eq (codes "unit") o) (bytes_eq (codes "agents") o) (bytes_eq (codes "epoch") o) (bytes_eq (codes "run") o)
-    (bytes_eq (codes "slot-ms") o) (bytes_eq (codes "classes") o) (bytes_eq (codes "fold") o) refl refl refl refl refl refl refl refl h
+    (bytes_eq (codes "slot-ms") o) (bytes_eq (codes "classes") o) (bytes_eq (codes "fold") o) (bytes_eq (codes "policy") o) refl refl refl refl refl refl refl refl refl h
   where
-    by : (a b c d e f g i : Bool) → bytes_eq (codes "weights") o ≡ a → bytes_eq (codes "unit") o ≡ b → bytes_eq (codes "agents") o ≡ c → bytes_eq (codes "epoch") o ≡ d →
-        bytes_eq (codes "run") o ≡ e → bytes_eq (codes "slot-ms") o ≡ f → bytes_eq (codes "classes") o ≡ g → bytes_eq (codes "fold") o ≡ i →
+    by : (a b c d e f g i j : Bool) → bytes_eq (codes "weights") o ≡ a → bytes_eq (codes "unit") o ≡ b → bytes_eq (codes "agents") o ≡ c → bytes_eq (codes "epoch") o ≡ d →
+        bytes_eq (codes "run") o ≡ e → bytes_eq (codes "slot-ms") o ≡ f → bytes_eq (codes "classes") o ≡ g → bytes_eq (codes "fold") o ≡ i → bytes_eq (codes "policy") o ≡ j →
         is_option o ≡ true → IsOption o
-    by true b c d e f g i p q r s t u v w h = same_name IsOption (codes "weights") o is_weights p
-    by false true c d e f g i p q r s t u v w h = same_name IsOption (codes "unit") o is_unit q
-    by false false true d e f g i p q r s t u v w h = same_name IsOption (codes "agents") o is_agents r
-    by false false false true e f g i p q r s t u v w h = same_name IsOption (codes "epoch") o is_epoch s
-    by false false false false true f g i p q r s t u v w h = same_name IsOption (codes "run") o is_run t
-    by false false false false false true g i p q r s t u v w h = same_name IsOption (codes "slot-ms") o is_slot_ms u
-    by false false false false false false true i p q r s t u v w h = same_name IsOption (codes "classes") o is_classes v
-    by false false false false false false false true p q r s t u v w h = same_name IsOption (codes "fold") o is_fold w
-    by false false false false false false false false p q r s t u v w h = let bad : false ≡ true = rw (p, q, r, s, t, u, v, w) at h in cc
+    by true b c d e f g i j p q r s t u v w x h = same_name IsOption (codes "weights") o is_weights p
+    by false true c d e f g i j p q r s t u v w x h = same_name IsOption (codes "unit") o is_unit q
+    by false false true d e f g i j p q r s t u v w x h = same_name IsOption (codes "agents") o is_agents r
+    by false false false true e f g i j p q r s t u v w x h = same_name IsOption (codes "epoch") o is_epoch s
+    by false false false false true f g i j p q r s t u v w x h = same_name IsOption (codes "run") o is_run t
+    by false false false false false true g i j p q r s t u v w x h = same_name IsOption (codes "slot-ms") o is_slot_ms u
+    by false false false false false false true i j p q r s t u v w x h = same_name IsOption (codes "classes") o is_classes v
+    by false false false false false false false true j p q r s t u v w x h = same_name IsOption (codes "fold") o is_fold w
+    by false false false false false false false false true p q r s t u v w x h = same_name IsOption (codes "policy") o is_policy x
+    by false false false false false false false false false p q r s t u v w x h = let bad : false ≡ true = rw (p, q, r, s, t, u, v, w, x) at h in cc
 
 pub not_option : (o : Text) → is_option o ≡ false → arg_by_long rules o ≡ None
 not_option o h = by (bytes_eq (codes "weights") o) (bytes_eq (codes "unit") o) (bytes_eq (codes "agents") o) (bytes_eq (codes "epoch") o) (bytes_eq (codes "run") o)
-    (bytes_eq (codes "slot-ms") o) (bytes_eq (codes "classes") o) (bytes_eq (codes "fold") o) refl refl refl refl refl refl refl refl h
+    (bytes_eq (codes "slot-ms") o) (bytes_eq (codes "classes") o) (bytes_eq (codes "fold") o) (bytes_eq (codes "policy") o) refl refl refl refl refl refl refl refl refl h
   where
-    by : (a b c d e f g i : Bool) → bytes_eq (codes "weights") o ≡ a → bytes_eq (codes "unit") o ≡ b → bytes_eq (codes "agents") o ≡ c → bytes_eq (codes "epoch") o ≡ d →
-        bytes_eq (codes "run") o ≡ e → bytes_eq (codes "slot-ms") o ≡ f → bytes_eq (codes "classes") o ≡ g → bytes_eq (codes "fold") o ≡ i →
+    by : (a b c d e f g i j : Bool) → bytes_eq (codes "weights") o ≡ a → bytes_eq (codes "unit") o ≡ b → bytes_eq (codes "agents") o ≡ c → bytes_eq (codes "epoch") o ≡ d →
+        bytes_eq (codes "run") o ≡ e → bytes_eq (codes "slot-ms") o ≡ f → bytes_eq (codes "classes") o ≡ g → bytes_eq (codes "fold") o ≡ i → bytes_eq (codes "policy") o ≡ j →
         is_option o ≡ false → arg_by_long rules o ≡ None
-    by true b c d e f g i p q r s t u v w h = let bad : true ≡ false = rw p at h in cc
-    by false true c d e f g i p q r s t u v w h = let bad : true ≡ false = rw (p, q) at h in cc
-    by false false true d e f g i p q r s t u v w h = let bad : true ≡ false = rw (p, q, r) at h in cc
-    by false false false true e f g i p q r s t u v w h = let bad : true ≡ false = rw (p, q, r, s) at h in cc
-    by false false false false true f g i p q r s t u v w h = let bad : true ≡ false = rw (p, q, r, s, t) at h in cc
-    by false false false false false true g i p q r s t u v w h = let bad : true ≡ false = rw (p, q, r, s, t, u) at h in cc
-    by false false false false false false true i p q r s t u v w h = let bad : true ≡ false = rw (p, q, r, s, t, u, v) at h in cc
-    by false false false false false false false true p q r s t u v w h = let bad : true ≡ false = rw (p, q, r, s, t, u, v, w) at h in cc
-    by false false false false false false false false p q r s t u v w h = rw (p, q, r, s, t, u, v, w) refl
+    by true b c d e f g i j p q r s t u v w x h = let bad : true ≡ false = rw p at h in cc
+    by false true c d e f g i j p q r s t u v w x h = let bad : true ≡ false = rw (p, q) at h in cc
+    by false false true d e f g i j p q r s t u v w x h = let bad : true ≡ false = rw (p, q, r) at h in cc
+    by false false false true e f g i j p q r s t u v w x h = let bad : true ≡ false = rw (p, q, r, s) at h in cc
+    by false false false false true f g i j p q r s t u v w x h = let bad : true ≡ false = rw (p, q, r, s, t) at h in cc
+    by false false false false false true g i j p q r s t u v w x h = let bad : true ≡ false = rw (p, q, r, s, t, u) at h in cc
+    by false false false false false false true i j p q r s t u v w x h = let bad : true ≡ false = rw (p, q, r, s, t, u, v) at h in cc
+    by false false false false false false false true j p q r s t u v w x h = let bad : true ≡ false = rw (p, q, r, s, t, u, v, w) at h in cc
+    by false false false false false false false false true p q r s t u v w x h = let bad : true ≡ false = rw (p, q, r, s, t, u, v, w, x) at h in cc
+    by false false false false false false false false false p q r s t u v w x h = rw (p, q, r, s, t, u, v, w, x) refl
 
 pub name_of : (k : ℕ) (id : Text) → name_at k ≡ Some id → IsName k id
 name_of zero id e = cc

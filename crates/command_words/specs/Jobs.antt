@@ -1,11 +1,12 @@
 -- The jobs: each command with what it takes.
-use Rattle.std.specs.Prelude.{◌≡◌, ◌&&◌, ◌^◌, ℕ, Bool, true, Option, Some, None, codes, if◌then◌else◌, length, nat_lt, not}
+use Rattle.std.specs.Prelude.{◌≡◌, ◌&&◌, ◌^◌, ℕ, Bool, true, Option, Some, None, codes, if◌then◌else◌, length, nat_le, nat_lt, not}
 use Rattle.std.specs.Prelude.{[], option_map}
+use Rattle.std.specs.List.{list_all}
 use Rattle.std.specs.Str.{bytes_eq}
 use Rattle.text_fields.specs.Numbers.{is_number, number}
 use Rattle.command_words.specs.Line.{Text}
 use Rattle.command_words.specs.declared.job.Job.{Job as JobWords}
-use Rattle.command_words.specs.declared.job.Job.TheVariants.{Audit, Check, Classes, Compare, Live, Make, Online, Plan, Replay, Serve}
+use Rattle.command_words.specs.declared.job.Job.TheVariants.{Audit, Check, Classes, Compare, Live, Make, Online, Plan, Record, Replay, Serve}
 
 -- What the program is asked to do: a command, with the names of files or the number behind it.
 pub data Job : Type 0 where
@@ -29,6 +30,8 @@ pub data Job : Type 0 where
   serve_job : Text → Text → Job
   -- the name of a trace
   replay_job : Text → Job
+  -- the names of a trace and of a ranker
+  record_job : Text → Text → Job
 
 -- the job of words that were read
 abbrev pub job_by : JobWords → Job
@@ -42,6 +45,7 @@ job_by (Online trace) = online_job trace.now
 job_by (Live trace script) = live_job trace.now script.now
 job_by (Serve trace order) = serve_job trace.now order.now
 job_by (Replay trace) = replay_job trace.now
+job_by (Record trace policy) = record_job trace.now policy.now
 
 -- The name of a file is not empty and is not `-`.
 abbrev pub is_file_name : Text → Bool
@@ -53,6 +57,17 @@ IsFileName name = is_file_name name ≡ true
 -- a text as the name of a file
 abbrev pub file_of : Text → Option Text
 file_of text = if is_file_name text then Some text else None
+
+-- a lower-case letter
+abbrev pub is_lower : ℕ → Bool
+is_lower b = nat_le 97 b && nat_le b 122
+
+-- The name of a ranker has from 1 to 16 lower-case letters.
+abbrev pub is_policy : Text → Bool
+is_policy name = nat_lt 0 (length name) && (nat_le (length name) 16 && list_all is_lower name)
+
+abbrev pub IsPolicy : Text → Type 0
+IsPolicy name = is_policy name ≡ true
 
 -- a text as a number below 2^64, in decimal digits
 abbrev pub seed_of : Text → Option ℕ
@@ -105,6 +120,12 @@ files_job name trace other = if bytes_eq name (codes "check") then Some (check_j
     else (if bytes_eq name (codes "serve") then Some (serve_job trace other)
     else None)))
 
+-- The job where the option `--policy` names a ranker: `replay` records the one of this name. With another job it changes
+-- nothing.
+abbrev pub with_policy : Option Text → Job → Job
+with_policy (Some name) (replay_job trace) = record_job trace name
+with_policy _ job = job
+
 -- the job of the names by their places, where COMMAND and FIRST stand
 abbrev pub job_in : Option Text → Option Text → Option Text → Option Job
 job_in (Some name) (Some first) second = job_of name first second
@@ -122,6 +143,7 @@ trace_name (online_job trace) = trace
 trace_name (live_job trace script) = trace
 trace_name (serve_job trace order) = trace
 trace_name (replay_job trace) = trace
+trace_name (record_job trace policy) = trace
 
 -- the name of the report, the printed journal or the order that a job reads, if it reads one
 abbrev pub report_name : Job → Option Text
@@ -135,6 +157,7 @@ report_name (online_job trace) = None
 report_name (live_job trace script) = None
 report_name (serve_job trace order) = Some order
 report_name (replay_job trace) = None
+report_name (record_job trace policy) = None
 
 -- the name of the script that a job reads, if it reads one
 abbrev pub script_name : Job → Option Text
@@ -148,6 +171,7 @@ script_name (online_job trace) = None
 script_name (live_job trace script) = Some script
 script_name (serve_job trace order) = None
 script_name (replay_job trace) = None
+script_name (record_job trace policy) = None
 
 -- the name of the order that a job reads, if it reads one
 abbrev pub order_name : Job → Option Text

@@ -18,7 +18,7 @@ texts = map (λ (s : String Global). string_bytes s)
 -- The options. Each has a value.
 abbrev pub options : List Text
 options = codes "weights" ∷ codes "unit" ∷ codes "agents" ∷ codes "epoch" ∷ codes "run" ∷ codes "slot-ms" ∷
-    codes "classes" ∷ codes "fold" ∷ []
+    codes "classes" ∷ codes "fold" ∷ codes "policy" ∷ []
 
 abbrev pub is_option : Text → Bool
 is_option name = list_any (λ o. bytes_eq o name) options

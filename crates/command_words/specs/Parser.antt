@@ -32,9 +32,10 @@ with_option a name = with_rule a (option_rule name)
 
 -- The command.
 abbrev pub app : App
-app = with_option (with_option (with_option (with_option
+app = with_option (with_option (with_option (with_option (with_option
     (with_option (with_option (with_option (with_option app_with_names (codes "weights")) (codes "unit"))
-    (codes "agents")) (codes "epoch")) (codes "run")) (codes "slot-ms")) (codes "classes")) (codes "fold")
+    (codes "agents")) (codes "epoch")) (codes "run")) (codes "slot-ms")) (codes "classes")) (codes "fold"))
+    (codes "policy")
 
 -- No argument is used twice, and COMMAND and FIRST are used.
 abbrev pub IsAccepted : List Use → Type 0

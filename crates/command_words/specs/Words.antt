@@ -6,7 +6,7 @@ use Rattle.class_rates.specs.declared.fold.Fold.TheVariants.{Count, Load}
 use Rattle.coflow_units.specs.declared.limits.TheConstants.{MAX_OPTION_SLOTS, MAX_SLOT_MS, MAX_UNIT}
 use Rattle.text_fields.specs.Numbers.{is_number, number}
 use Rattle.command_words.specs.Line.{IsOnce, Text, Use, uses, value_of}
-use Rattle.command_words.specs.Jobs.{IsFileName, Job, job_by, job_in}
+use Rattle.command_words.specs.Jobs.{IsFileName, IsPolicy, Job, job_by, job_in, with_policy}
 use Rattle.command_words.specs.declared.options.TheConstants.{MAX_OPTION_AGENTS, MAX_OPTION_CLASSES}
 use Rattle.command_words.specs.declared.options.Options.{Options}
 use Rattle.command_words.specs.declared.words.Words.{Words}
@@ -53,9 +53,14 @@ fold_of None = Some Count
 fold_of (Some text) = if bytes_eq text (codes "count") then Some Count
     else (if bytes_eq text (codes "load") then Some Load else None)
 
+-- the job that the arguments give by their values, where COMMAND and FIRST have one
+abbrev pub job_of_values : (Text → Option Text) → Option Job
+job_of_values value = option_map (with_policy (value (codes "policy")))
+    (job_in (value (codes "COMMAND")) (value (codes "FIRST")) (value (codes "SECOND")))
+
 -- What is said is what the arguments have as their values, and each value fits.
 pub record IsSaid (value : Text → Option Text) (said : Said) : Type 0 where
-  pub job : job_in (value (codes "COMMAND")) (value (codes "FIRST")) (value (codes "SECOND")) ≡ Some said.job
+  pub job : job_of_values value ≡ Some said.job
   pub weights : value (codes "weights") ≡ said.weights
   pub unit : IsSetting MAX_UNIT 1 (value (codes "unit")) said.unit
   pub agents : IsSetting MAX_OPTION_AGENTS 4 (value (codes "agents")) said.agents
@@ -65,6 +70,7 @@ pub record IsSaid (value : Text → Option Text) (said : Said) : Type 0 where
   pub classes : IsSetting MAX_OPTION_CLASSES 8 (value (codes "classes")) said.classes
   pub fold : fold_of (value (codes "fold")) ≡ Some said.fold
   pub weights_fit : IfSome said.weights IsFileName
+  pub policy_fit : IfSome (value (codes "policy")) IsPolicy
 
 -- The words behind the program's name use each argument at most once, and say this.
 pub record IsWords (words : List Text) (said : Said) : Type 0 where

@@ -1,6 +1,6 @@
 //! The jobs: each command with what it takes.
 ghost use Rattle.std.specs.Prelude.{◌≡◌, option_map};
-ghost use Rattle.command_words.specs.Jobs.{alone, file_job, files_job, job_by, job_of, seed_of};
+ghost use Rattle.command_words.specs.Jobs.{alone, file_job, files_job, job_by, job_of, seed_of, with_policy};
 
 use crate::values::{file_of, seed_of};
 
@@ -27,6 +27,22 @@ pub enum Job<'a> {
     Serve { trace: &'a str, order: &'a str },
     /// `replay TRACE` serves a trace as its coflows arrive, by each ranker of a bench.
     Replay { trace: &'a str },
+    /// `replay TRACE --policy NAME` serves a trace as its coflows arrive, by the ranker of this name alone.
+    Record { trace: &'a str, policy: &'a str },
+}
+
+/// The job where the option `--policy` names a ranker, if it is used. `replay` takes the name; another job stays as it
+/// is.
+pub(crate) fn with_policy<'a>(job: Job<'a>, policy: Option<&'a str>) -> Job<'a>
+    ensures { job_by result ≡ with_policy (option_map (λ s. s.now) policy.entry) (job_by job.entry) }
+{
+    let Some(policy) = policy else {
+        return job;
+    };
+    match job {
+        Job::Replay { trace } => Job::Record { trace, policy },
+        job => job,
+    }
 }
 
 /// The job of the command of this name and the words behind it. `None` where there is no such command, or it does not take them.

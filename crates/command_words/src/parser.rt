@@ -12,8 +12,8 @@ use clap::{ArgMatches, Command};
 use std::alloc::{AllocError, Global};
 
 /// The names of the options, each of which has a value.
-const OPTIONS: [&str; 8] = [
-    "weights", "unit", "agents", "epoch", "run", "slot-ms", "classes", "fold",
+const OPTIONS: [&str; 9] = [
+    "weights", "unit", "agents", "epoch", "run", "slot-ms", "classes", "fold", "policy",
 ];
 
 /// What the words give each argument. `Usage` comes where a word is refused, an argument is used twice, or COMMAND or FIRST is missing.

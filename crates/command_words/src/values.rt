@@ -1,7 +1,8 @@
 //! The values of names and options.
 ghost use Rattle.std.specs.Prelude.{◌≡◌, ◌<◌, ◌≤◌, ◌-◌, ◌^◌, ℕ, IfNone, IfSome, option_map};
+ghost use Rattle.std.specs.List.{list_all};
 ghost use Rattle.coflow_units.specs.declared.limits.TheConstants.{MAX_UNIT};
-ghost use Rattle.command_words.specs.Jobs.{file_of, is_file_name, seed_of};
+ghost use Rattle.command_words.specs.Jobs.{file_of, is_file_name, is_lower as lower, is_policy, seed_of};
 ghost use Rattle.command_words.specs.Words.{IsSetting, fold_of};
 
 use class_rates::Fold;
@@ -23,6 +24,26 @@ pub(crate) fn file_of(text: &str) -> Option<&str>
         return Some(text);
     }
     None
+}
+
+/// The name is one that a ranker may have: from 1 to 16 lower-case letters.
+pub(crate) fn is_policy(name: &str) -> bool
+    ensures { result ≡ is_policy name.now }
+{
+    !name.is_empty() && name.len() <= 16 && has_lower_alone(name.as_bytes())
+}
+
+fn has_lower_alone(name: &[u8]) -> bool
+    ensures { result ≡ list_all lower name.now }
+{
+    name.iter().all(|b| is_lower(*b))
+}
+
+/// A letter from a to z.
+fn is_lower(byte: u8) -> bool
+    ensures { result ≡ lower byte }
+{
+    byte >= b'a' && byte <= b'z'
 }
 
 /// The number of one or more decimal digits, below 2^64, or `None` where the text is none.

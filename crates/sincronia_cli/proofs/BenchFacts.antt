@@ -1,7 +1,7 @@
 -- What a command does to the bench: whether there is a text decides it, and the job of the words.
 use Rattle.std.proofs.Common.{◌≡◌, ℕ, inl, inr, List, Option, ap, drop, subst, sym, take, ◌∙◌}
 use Rattle.command_words.specs.Jobs.{Job}
-use Rattle.command_words.specs.Jobs.Job.{audit_job, check_job, classes_job, compare_job, live_job, make_job, online_job, plan_job, replay_job, serve_job}
+use Rattle.command_words.specs.Jobs.Job.{audit_job, check_job, classes_job, compare_job, live_job, make_job, online_job, plan_job, record_job, replay_job, serve_job}
 use Rattle.command_words.specs.Line.{Text}
 use Rattle.command_words.specs.Words.{IsWords, Said}
 use Rattle.command_words.proofs.OneMeaning.{words_one}
@@ -19,9 +19,10 @@ use Rattle.command_jobs.specs.Compare.{IsFactsOfFiles}
 use Rattle.sincronia_cli.specs.Command.{AsksBench, IsCommand}
 use Rattle.sincronia_cli.specs.Outcome.{HasText, IsOutcome, OutcomeBy}
 use Rattle.command_jobs.specs.Online.{FilesPublishMore}
+use Rattle.command_jobs.specs.Record.{LacksPolicy, RecordPublishesMore}
 use Rattle.command_jobs.specs.Replay.{ReplaysPublishMore}
 use Rattle.command_jobs.specs.Serving.{Serves, Service}
-use Rattle.command_jobs.proofs.EndCauses.{by_epochs, by_wire, of_served}
+use Rattle.command_jobs.proofs.EndCauses.{by_epochs, by_policy, by_wire, of_served}
 
 -- the words are one command
 pub job_of : (words : List Text) (by said : Said) (k : Job) → IsWords words by → IsCommand k words said → by.job ≡ k
@@ -33,15 +34,17 @@ asks_by words by said reads is asks = subst (λ (x : Said). AsksBench x.job) (sy
 
 -- those that are gone were asked with the facts of the files of the words, where these ask for no replay
 pub left_by : {X : Type 0} (A : X → FactsTold → Type 0) (words : List Text) (told : Option Told) (by : Said) (xs new : List X) → IsWords words by →
-    ((reached : ℕ) × (new ≡ drop reached xs) × (((trace : List ℕ) → by.job ≡ replay_job trace → ⊥) →
+    ((reached : ℕ) × (new ≡ drop reached xs) × (((trace : List ℕ) → by.job ≡ replay_job trace → ⊥) → ((trace policy : List ℕ) → by.job ≡ record_job trace policy → ⊥) →
     All (λ b. (facts : FactsTold) × IsFactsOfFiles told by facts × A b facts) (take reached xs))) →
     (reached : ℕ) × (new ≡ drop reached xs) × (((said : Said) (trace : List ℕ) → IsCommand (replay_job trace) words said → ⊥) →
+    ((said : Said) (trace policy : List ℕ) → IsCommand (record_job trace policy) words said → ⊥) →
     All (λ b. (said : Said) × IsWords words said × (facts : FactsTold) × IsFactsOfFiles told said facts × A b facts) (take reached xs))
 left_by A words told by xs new says (reached, rest, all) = (
   reached,
   rest,
-  λ none k d lt.
-      let asked = all (λ trace is. none by trace (record { words_say = says; job_is = is })) k d lt in
+  λ none alone k d lt.
+      let asked = all (λ trace is. none by trace (record { words_say = says; job_is = is }))
+      (λ trace policy is. alone by trace policy (record { words_say = says; job_is = is })) k d lt in
       (by, says, asked.0, asked.1, asked.2),
 )
 
@@ -60,6 +63,7 @@ text_by S (compare_job trace) told said bench s text outcome = subst HasText (sy
 text_by S (classes_job trace) told said bench s text outcome = subst HasText (sym outcome.0) tt
 text_by S (serve_job trace order) told said bench s text outcome = subst HasText (sym outcome.0) tt
 text_by S (replay_job trace) told said bench s text outcome = subst HasText (sym outcome.0) tt
+text_by S (record_job trace policy) told said bench s text (answer, is, records) = of_answer answer s is
 text_by S (online_job trace) told said bench s text outcome = subst HasText (sym outcome.0) tt
 text_by S (live_job trace script) told said bench s text outcome = subst HasText (sym outcome.0) tt
 text_by S (audit_job trace journal) told said bench s text (answer, is, audits) = of_answer answer s is
@@ -74,6 +78,7 @@ no_text : (before now : ℕ) (old new : Option Told) (said : Said) (s : Status) 
 no_text before now old new said status.Ok cause text = cause
 no_text before now old new said status.No cause text = cause
 no_text before now old new said status.Usage cause text = text
+no_text before now old new said status.UnknownPolicy cause text = text
 no_text before now old new said (status.BadTrace fault) cause text = text
 no_text before now old new said (status.BadWeights fault) cause text = text
 no_text before now old new said (status.BadReport line) cause text = text
@@ -108,6 +113,13 @@ none_by F bench (online_job trace) before now old new said s (inr (inr cause)) t
 none_by F bench (replay_job trace) before now old new said s (inl cause) text = no_text before now old new said s cause text
 none_by F bench (replay_job trace) before now old new said s (inr cause) text =
     let (count, is, p) = by_epochs (λ count. IfSome old (ReplaysPublishMore bench said count)) s cause in
+    subst HasText is text
+none_by F bench (record_job trace policy) before now old new said s (inl cause) text = no_text before now old new said s cause text
+none_by F bench (record_job trace policy) before now old new said s (inr (inl cause)) text =
+    let (count, is, p) = by_epochs (λ count. IfSome old (RecordPublishesMore bench policy said count)) s cause in
+    subst HasText is text
+none_by F bench (record_job trace policy) before now old new said s (inr (inr cause)) text =
+    let (is, p) = by_policy (LacksPolicy bench (record_job trace policy)) s cause in
     subst HasText is text
 none_by F bench (live_job trace script) before now old new said s (inl cause) text = no_text before now old new said s cause text
 none_by F bench (live_job trace script) before now old new said s (inr cause) text =

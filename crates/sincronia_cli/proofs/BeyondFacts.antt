@@ -6,7 +6,7 @@ use Rattle.coflow_units.specs.declared.limits.TheConstants.{MAX_TEXT}
 use Rattle.coflow_units.specs.declared.quantity.Quantity.TheVariants as quantity
 use Rattle.std.specs.Prelude.{◌⊎◌, sum_by}
 use Rattle.command_words.specs.Jobs.{Job, order_name, report_name, script_name, trace_name}
-use Rattle.command_words.specs.Jobs.Job.{audit_job, check_job, classes_job, compare_job, live_job, make_job, online_job, plan_job, replay_job, serve_job}
+use Rattle.command_words.specs.Jobs.Job.{audit_job, check_job, classes_job, compare_job, live_job, make_job, online_job, plan_job, record_job, replay_job, serve_job}
 use Rattle.command_words.specs.Words.{Said}
 use Rattle.flow_table.specs.Sent.{sent}
 use Rattle.flow_table.proofs.FlowsOne.{flows_one}
@@ -29,6 +29,7 @@ use Rattle.command_files.specs.JobCauses.{IsBadFor}
 use Rattle.command_files.specs.GoodFiles.{HasGoodFiles}
 use Rattle.command_jobs.specs.Online.{FilesPublishMore}
 use Rattle.command_jobs.specs.Publishing.{PublishesFew, PublishesOver}
+use Rattle.command_jobs.specs.Record.{RecordPublishesMore}
 use Rattle.command_jobs.specs.Replay.{ReplaysPublishMore}
 use Rattle.command_files.proofs.GoodFacts.{HasNoFault, order_is_good}
 use Rattle.sincronia_cli.proofs.CompleteFacts.{no_report_of}
@@ -86,6 +87,7 @@ order_alone (audit_job trace journal) given = absurd given
 order_alone (online_job trace) given = absurd given
 order_alone (live_job trace script) given = absurd given
 order_alone (replay_job trace) given = absurd given
+order_alone (record_job trace policy) given = absurd given
 
 fault_given : (t : Told) (name : Option (List ℕ)) (ids : List ℕ) (f : OrderFault) → HasOrderFault ids (bytes_if t name) f → IsGiven name
 fault_given t None ids f bad = bad
@@ -104,14 +106,16 @@ module _ (bench : List Meaning) (said : Said) (t : Told) where
   ids_one : (a b : FilesGiveTable said t) → a.table.ids ≡ b.table.ids
   ids_one a b = a.gives.table_is.ids ∙ sym b.gives.table_is.ids
 
-  -- an online run and a replay have no script
+  -- an online run, a replay and a record have no script
   has_no_script : (count : ℕ) → PublishesOver bench said.job said count t → script_name said.job ≡ None
   has_no_script count over = none (over_is bench said t said.job count over)
     where
       none : ((trace : List ℕ) × (said.job ≡ online_job trace) × FilesPublishMore said count t)
-          ⊎ ((trace : List ℕ) × (said.job ≡ replay_job trace) × ReplaysPublishMore bench said count t) → script_name said.job ≡ None
+          ⊎ (((trace : List ℕ) × (said.job ≡ replay_job trace) × ReplaysPublishMore bench said count t)
+          ⊎ ((trace : List ℕ) × (policy : List ℕ) × (said.job ≡ record_job trace policy) × RecordPublishesMore bench policy said count t)) → script_name said.job ≡ None
       none (inl (trace, same, more)) = ap script_name same
-      none (inr (trace, same, more)) = ap script_name same
+      none (inr (inl (trace, same, more))) = ap script_name same
+      none (inr (inr (trace, policy, same, more))) = ap script_name same
 
   over_given : (count : ℕ) → PublishesOver bench said.job said count t → IsGiven (script_name said.job) → ⊥
   over_given count over given = subst IsGiven (has_no_script count over) given
@@ -174,6 +178,7 @@ module _ (bench : List Meaning) (said : Said) (t : Told) where
   script_good (classes_job trace) good given = absurd given
   script_good (serve_job trace order) good given = absurd given
   script_good (replay_job trace) good given = absurd given
+  script_good (record_job trace policy) good given = absurd given
   script_good (audit_job trace journal) good given = absurd given
   script_good (online_job trace) good given = absurd given
 
@@ -213,6 +218,7 @@ script_alone (compare_job trace) given = absurd given
 script_alone (classes_job trace) given = absurd given
 script_alone (serve_job trace order) given = absurd given
 script_alone (replay_job trace) given = absurd given
+script_alone (record_job trace policy) given = absurd given
 script_alone (audit_job trace journal) given = absurd given
 script_alone (online_job trace) given = absurd given
 

@@ -2,7 +2,7 @@
 use Rattle.std.proofs.Common.{◌≡◌, ℕ, inl, inr, List, Option, Some, None, ap, refl, sym, subst, ◌∙◌}
 use Rattle.std.specs.Prelude.{◌⊎◌, Bool, false, true}
 use Rattle.command_words.specs.Jobs.{Job, order_name, report_name, script_name}
-use Rattle.command_words.specs.Jobs.Job.{audit_job, check_job, classes_job, compare_job, live_job, make_job, online_job, plan_job, replay_job, serve_job}
+use Rattle.command_words.specs.Jobs.Job.{audit_job, check_job, classes_job, compare_job, live_job, make_job, online_job, plan_job, record_job, replay_job, serve_job}
 use Rattle.coflow_units.specs.declared.limits.TheConstants.{MAX_TEXT}
 use Rattle.command_words.specs.Line.{Text}
 use Rattle.command_words.specs.Words.{IsWords, Said}
@@ -24,10 +24,11 @@ use Rattle.command_files.specs.Ends.{IsStill}
 use Rattle.command_files.specs.Inputs.{bytes_if}
 use Rattle.sincronia_cli.specs.Outcome.{IsOutcome, OutcomeBy}
 use Rattle.command_jobs.specs.Online.{FilesPublishMore}
+use Rattle.command_jobs.specs.Record.{LacksPolicy, RecordPublishesMore}
 use Rattle.command_jobs.specs.Replay.{ReplaysPublishMore}
 use Rattle.command_jobs.specs.Serving.{Serves, Service}
 use Rattle.command_jobs.specs.Serving.Service.{online_of, plan_of, script_of}
-use Rattle.command_jobs.proofs.EndCauses.{by_epochs, by_made, by_wire}
+use Rattle.command_jobs.proofs.EndCauses.{by_epochs, by_made, by_policy, by_wire}
 use Rattle.command_files.proofs.GoodFacts.{HasNoFault, files_end, journal_is_good, no_order, no_report, no_script, order_is_good, order_is_short, report_is_good, script_is_good}
 
 -- ---- a text that reads has no fault
@@ -51,6 +52,7 @@ module _ (said : Said) (t : Told) where
   other_is_good (classes_job trace) same good = no_report_of (classes_job trace) same refl
   other_is_good (online_job trace) same good = no_report_of (online_job trace) same refl
   other_is_good (replay_job trace) same good = no_report_of (replay_job trace) same refl
+  other_is_good (record_job trace policy) same good = no_report_of (record_job trace policy) same refl
   other_is_good (live_job trace script) same good = no_report_of (live_job trace script) same refl
   other_is_good (audit_job trace journal) same (table, text) = good_of (audit_job trace journal) same (journal_is_good (bytes_if t (report_name said.job)) text)
   other_is_good (serve_job trace order) same (table, text) =
@@ -67,6 +69,7 @@ module _ (said : Said) (t : Told) where
   table_is_good (classes_job trace) reads table = table
   table_is_good (online_job trace) reads table = table
   table_is_good (replay_job trace) reads table = table
+  table_is_good (record_job trace policy) reads table = table
   table_is_good (live_job trace script) reads good = good.0.given
   table_is_good (audit_job trace journal) reads (table, text) = table
   table_is_good (serve_job trace order) reads (table, text) = table
@@ -123,6 +126,15 @@ by_command F bench (replay_job trace) before now (Some t) new said s same (inl c
 by_command F bench (replay_job trace) before now (Some t) new said s same (inr cause) good still wires =
     let (count, is, more) = by_epochs (λ count. ReplaysPublishMore bench said count t) s cause in
     absurd (good.1 count more)
+by_command F bench (record_job trace policy) before now None new said s same cause good still wires = absurd good.1
+by_command F bench (record_job trace policy) before now (Some t) new said s same (inl cause) good still wires =
+    ends_without (record_job trace policy) before now t new said s same refl refl cause good.1.0 good.1.0 still
+by_command F bench (record_job trace policy) before now (Some t) new said s same (inr (inl cause)) good still wires =
+    let (count, is, more) = by_epochs (λ count. RecordPublishesMore bench policy said count t) s cause in
+    absurd (good.1.1 count more)
+by_command F bench (record_job trace policy) before now (Some t) new said s same (inr (inr cause)) good still wires =
+    let (is, lacks) = by_policy (LacksPolicy bench (record_job trace policy)) s cause in
+    absurd (good.0 lacks)
 by_command F bench (live_job trace script) before now None new said s same cause good still wires = absurd good
 by_command F bench (live_job trace script) before now (Some t) new said s same (inl cause) good still wires =
     files_end before now t new said s cause good.0.given (other_is_good said t (live_job trace script) same good) (script_is_good said t good)
@@ -162,6 +174,7 @@ written_by S (compare_job trace) told said bench s text outcome = outcome.0
 written_by S (classes_job trace) told said bench s text outcome = outcome.0
 written_by S (online_job trace) told said bench s text outcome = outcome.0
 written_by S (replay_job trace) told said bench s text outcome = outcome.0
+written_by S (record_job trace policy) told said bench s text (answer, is, records) = answer_ends answer s is
 written_by S (live_job trace script) told said bench s text outcome = outcome.0
 written_by S (serve_job trace order) told said bench s text outcome = outcome.0
 written_by S (audit_job trace journal) told said bench s text (answer, is, audits) = answer_ends answer s is

@@ -2,7 +2,7 @@
 use Rattle.std.proofs.Common.{◌≡◌, ℕ, inl, inr, List, subst}
 use Rattle.std.specs.Prelude.{Option}
 use Rattle.command_words.specs.Jobs.{Job}
-use Rattle.command_words.specs.Jobs.Job.{audit_job, check_job, classes_job, compare_job, live_job, make_job, online_job, plan_job, replay_job, serve_job}
+use Rattle.command_words.specs.Jobs.Job.{audit_job, check_job, classes_job, compare_job, live_job, make_job, online_job, plan_job, record_job, replay_job, serve_job}
 use Rattle.command_words.specs.Words.{Said}
 use Rattle.outside.specs.Shelf.{Told}
 use Rattle.rankers.specs.Meaning.{Meaning}
@@ -12,6 +12,7 @@ use Rattle.command_files.specs.declared.status.Status.{Status}
 use Rattle.command_files.specs.declared.status.Status.TheVariants as status
 use Rattle.command_files.specs.Ends.{IsWriteFault}
 use Rattle.command_files.specs.JobCauses.{HasFilesCause}
+use Rattle.command_jobs.specs.Record.{LacksPolicy}
 use Rattle.sincronia_cli.specs.Causes.{CauseBy, HasCauseOf}
 use Rattle.sincronia_cli.specs.Command.{ReadsFiles}
 use Rattle.sincronia_cli.specs.Outcome.{HasText}
@@ -34,6 +35,9 @@ usage_by F bench (online_job trace) before now old new said (inr (inl h)) = absu
 usage_by F bench (online_job trace) before now old new said (inr (inr h)) = absurd h
 usage_by F bench (replay_job trace) before now old new said (inl h) = h
 usage_by F bench (replay_job trace) before now old new said (inr h) = absurd h
+usage_by F bench (record_job trace policy) before now old new said (inl h) = h
+usage_by F bench (record_job trace policy) before now old new said (inr (inl h)) = absurd h
+usage_by F bench (record_job trace policy) before now old new said (inr (inr h)) = absurd h
 usage_by F bench (live_job trace script) before now old new said (inl h) = h
 usage_by F bench (live_job trace script) before now old new said (inr h) = absurd h
 usage_by F bench (audit_job trace journal) before now old new said h = h
@@ -42,6 +46,35 @@ pub usage_given : (F : ℕ → _ → Type 0) (bench : List Meaning) (said : Said
     HasCauseOf F bench before now old new said s → s ≡ status.Usage → ⊥
 usage_given F bench said before now old new s cause is =
     usage_by F bench said.job before now old new said (subst (λ (x : Status). HasCauseOf F bench before now old new said x) is cause)
+
+-- ---- a policy that no ranker has
+
+policy_by : (F : ℕ → _ → Type 0) (bench : List Meaning) (k : Job) (before now : ℕ) (old new : Option Told) (said : Said) →
+    CauseBy F bench k before now old new said status.UnknownPolicy → LacksPolicy bench k
+policy_by F bench (plan_job trace) before now old new said (inl h) = absurd h
+policy_by F bench (plan_job trace) before now old new said (inr h) = absurd h
+policy_by F bench (check_job trace report) before now old new said h = absurd h
+policy_by F bench (make_job seed) before now old new said (inl h) = absurd h
+policy_by F bench (make_job seed) before now old new said (inr h) = absurd h
+policy_by F bench (compare_job trace) before now old new said h = absurd h
+policy_by F bench (classes_job trace) before now old new said h = absurd h
+policy_by F bench (serve_job trace order) before now old new said h = absurd h
+policy_by F bench (online_job trace) before now old new said (inl h) = absurd h
+policy_by F bench (online_job trace) before now old new said (inr (inl h)) = absurd h
+policy_by F bench (online_job trace) before now old new said (inr (inr h)) = absurd h
+policy_by F bench (replay_job trace) before now old new said (inl h) = absurd h
+policy_by F bench (replay_job trace) before now old new said (inr h) = absurd h
+policy_by F bench (record_job trace policy) before now old new said (inl h) = absurd h
+policy_by F bench (record_job trace policy) before now old new said (inr (inl h)) = absurd h
+policy_by F bench (record_job trace policy) before now old new said (inr (inr h)) = h
+policy_by F bench (live_job trace script) before now old new said (inl h) = absurd h
+policy_by F bench (live_job trace script) before now old new said (inr h) = absurd h
+policy_by F bench (audit_job trace journal) before now old new said h = absurd h
+
+pub policy_given : (F : ℕ → _ → Type 0) (bench : List Meaning) (said : Said) (before now : ℕ) (old new : Option Told) (s : Status) →
+    HasCauseOf F bench before now old new said s → s ≡ status.UnknownPolicy → LacksPolicy bench said.job
+policy_given F bench said before now old new s cause is =
+    policy_by F bench said.job before now old new said (subst (λ (x : Status). HasCauseOf F bench before now old new said x) is cause)
 
 -- ---- a file that is no trace
 
@@ -60,6 +93,9 @@ bad_trace_by F bench (online_job trace) before now old new said fault (inr (inl 
 bad_trace_by F bench (online_job trace) before now old new said fault (inr (inr h)) = absurd h
 bad_trace_by F bench (replay_job trace) before now old new said fault (inl h) = (tt, h)
 bad_trace_by F bench (replay_job trace) before now old new said fault (inr h) = absurd h
+bad_trace_by F bench (record_job trace policy) before now old new said fault (inl h) = (tt, h)
+bad_trace_by F bench (record_job trace policy) before now old new said fault (inr (inl h)) = absurd h
+bad_trace_by F bench (record_job trace policy) before now old new said fault (inr (inr h)) = absurd h
 bad_trace_by F bench (live_job trace script) before now old new said fault (inl h) = (tt, h)
 bad_trace_by F bench (live_job trace script) before now old new said fault (inr h) = absurd h
 bad_trace_by F bench (audit_job trace journal) before now old new said fault h = (tt, h)
@@ -86,6 +122,9 @@ bad_weights_by F bench (online_job trace) before now old new said fault (inr (in
 bad_weights_by F bench (online_job trace) before now old new said fault (inr (inr h)) = absurd h
 bad_weights_by F bench (replay_job trace) before now old new said fault (inl h) = (tt, h)
 bad_weights_by F bench (replay_job trace) before now old new said fault (inr h) = absurd h
+bad_weights_by F bench (record_job trace policy) before now old new said fault (inl h) = (tt, h)
+bad_weights_by F bench (record_job trace policy) before now old new said fault (inr (inl h)) = absurd h
+bad_weights_by F bench (record_job trace policy) before now old new said fault (inr (inr h)) = absurd h
 bad_weights_by F bench (live_job trace script) before now old new said fault (inl h) = (tt, h)
 bad_weights_by F bench (live_job trace script) before now old new said fault (inr h) = absurd h
 bad_weights_by F bench (audit_job trace journal) before now old new said fault h = (tt, h)
@@ -112,6 +151,9 @@ read_fault_by F bench (online_job trace) before now old new said count (inr (inl
 read_fault_by F bench (online_job trace) before now old new said count (inr (inr h)) = absurd h
 read_fault_by F bench (replay_job trace) before now old new said count (inl h) = (tt, h)
 read_fault_by F bench (replay_job trace) before now old new said count (inr h) = absurd h
+read_fault_by F bench (record_job trace policy) before now old new said count (inl h) = (tt, h)
+read_fault_by F bench (record_job trace policy) before now old new said count (inr (inl h)) = absurd h
+read_fault_by F bench (record_job trace policy) before now old new said count (inr (inr h)) = absurd h
 read_fault_by F bench (live_job trace script) before now old new said count (inl h) = (tt, h)
 read_fault_by F bench (live_job trace script) before now old new said count (inr h) = absurd h
 read_fault_by F bench (audit_job trace journal) before now old new said count h = (tt, h)
@@ -127,6 +169,7 @@ has_text : (s : Status) → IsWriteFault s → HasText s
 has_text status.Ok is = absurd is
 has_text status.No is = absurd is
 has_text status.Usage is = absurd is
+has_text status.UnknownPolicy is = absurd is
 has_text (status.BadTrace a) is = absurd is
 has_text (status.BadWeights a) is = absurd is
 has_text (status.BadReport a) is = absurd is

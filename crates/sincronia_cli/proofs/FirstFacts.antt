@@ -7,7 +7,7 @@ use Rattle.coflow_units.specs.declared.quantity.Quantity.TheVariants as quantity
 use Rattle.coflow_units.specs.declared.trace.CoflowLine.{CoflowLine}
 use Rattle.coflow_units.specs.declared.trace.Trace.{Trace}
 use Rattle.command_words.specs.Jobs.{Job, report_name, script_name, trace_name}
-use Rattle.command_words.specs.Jobs.Job.{audit_job, check_job, classes_job, compare_job, live_job, make_job, online_job, plan_job, replay_job, serve_job}
+use Rattle.command_words.specs.Jobs.Job.{audit_job, check_job, classes_job, compare_job, live_job, make_job, online_job, plan_job, record_job, replay_job, serve_job}
 use Rattle.command_words.specs.Line.{Text}
 use Rattle.command_words.specs.Words.{IsWords, Said}
 use Rattle.command_words.proofs.OneMeaning.{words_one}
@@ -38,12 +38,13 @@ use Rattle.command_files.specs.Limits.{most_bytes}
 use Rattle.command_files.specs.ReportCauses.{IsBadReport, IsLongReport}
 use Rattle.command_jobs.specs.Online.{FilesPublishMore}
 use Rattle.command_jobs.specs.Publishing.{PublishesFew, PublishesOver}
+use Rattle.command_jobs.specs.Record.{HasPolicy, LacksPolicy, RecordPublishesMore}
 use Rattle.command_jobs.specs.Replay.{ReplaysPublishMore}
 use Rattle.command_jobs.specs.Serving.{Serves, Service}
 use Rattle.command_files.specs.TraceCauses.{HasTraceFault, IsTooLong, IsTraceForm}
 use Rattle.command_files.specs.WeightsCauses.{AreTooLong, IsFaultOf, IsWeightsForm}
 use Rattle.command_files.proofs.JobFacts.{bad_bytes, bad_line_one}
-use Rattle.command_jobs.proofs.EndCauses.{by_epochs, by_wire}
+use Rattle.command_jobs.proofs.EndCauses.{by_epochs, by_policy, by_wire}
 use Rattle.sincronia_cli.proofs.BeyondFacts.{Beyond, ScriptStops, alone_is_good, beyond_one, is_given, nothing_beyond, order_fault_short}
 use Rattle.sincronia_cli.proofs.BeyondFacts.Beyond.{in_order, in_script, too_much, too_often}
 use Rattle.sincronia_cli.proofs.BeyondFacts.ScriptStops.{bad_script, long_script}
@@ -233,13 +234,16 @@ stops_of bench words said t (status.BadOrder f) is (form, (g, bad)) = beyond g (
 stops_of bench words said t (status.Limit which count) is (inr (epochs, many)) = by (over_is bench said t said.job count many)
   where
     by : ((trace : List ℕ) × (said.job ≡ online_job trace) × FilesPublishMore said count t)
-        ⊎ ((trace : List ℕ) × (said.job ≡ replay_job trace) × ReplaysPublishMore bench said count t) →
+        ⊎ (((trace : List ℕ) × (said.job ≡ replay_job trace) × ReplaysPublishMore bench said count t)
+        ⊎ ((trace : List ℕ) × (policy : List ℕ) × (said.job ≡ record_job trace policy) × RecordPublishesMore bench policy said count t)) →
         Stops said.job (bytes_of t (trace_name said.job)) (bytes_if t said.weights) said.unit (bytes_if t (report_name said.job)) (Beyond bench said t)
         (status.Limit which count)
     by (inl (trace, same, more)) =
         beyond more.given (other_is_good said t (online_job trace) same more.given) (too_often count many (ap (λ w. status.Limit w count) epochs))
-    by (inr (trace, same, more)) =
+    by (inr (inl (trace, same, more))) =
         beyond more.given (other_is_good said t (replay_job trace) same more.given) (too_often count many (ap (λ w. status.Limit w count) epochs))
+    by (inr (inr (trace, policy, same, more))) =
+        beyond more.given (other_is_good said t (record_job trace policy) same more.given) (too_often count many (ap (λ w. status.Limit w count) epochs))
 stops_of bench words said t (status.Limit which count) is (inl (in_input cause)) = by_limit said.job _ _ said.unit _ _ which count cause
 stops_of bench words said t (status.Limit which count) is (inl (in_report table (text, told, long))) = at_report table (long_report long (rw (text, told) refl))
 stops_of bench words said t (status.Limit which count) is (inl (in_shared given table units more)) =
@@ -254,6 +258,7 @@ stops_of bench words said t status.Ok is good =
     at_end (table_is_good said t said.job is.reads good.0) (other_is_good said t said.job refl good.0) (nothing_beyond bench said t good.0 good.1) refl
 stops_of bench words said t status.No is cause = absurd cause
 stops_of bench words said t status.Usage is cause = absurd cause
+stops_of bench words said t status.UnknownPolicy is cause = absurd cause
 stops_of bench words said t (status.ReadFault count) is cause = absurd cause
 stops_of bench words said t (status.WriteFault count) is cause = absurd cause
 stops_of bench words said t (status.WireFault port count) is cause = absurd cause
@@ -284,6 +289,7 @@ files_end_by bench words said before now t new status.NoMemory cause is why x = 
 files_end_by bench words said before now t new status.Ok cause is why x = absurd why
 files_end_by bench words said before now t new status.No cause is why x = absurd why
 files_end_by bench words said before now t new status.Usage cause is why x = absurd why
+files_end_by bench words said before now t new status.UnknownPolicy cause is why x = absurd why
 files_end_by bench words said before now t new (status.WriteFault count) cause is why x = absurd why
 files_end_by bench words said before now t new (status.WireFault port count) cause is why x = absurd why
 
@@ -292,37 +298,42 @@ abbrev Goes : List Meaning → Option Told → Said → Job → Status → Type 
 Goes bench old said k s = IsInterrupted s ⊎ ((count : ℕ) × (s ≡ status.Limit quantity.Epochs count) × IfSome old (PublishesOver bench k said count))
 
 of_files : (F : ℕ → Service → Type 0) (bench : List Meaning) (k : Job) (before now : ℕ) (old new : Option Told) (said : Said) (s : Status) → ReadsFiles k →
-    CauseBy F bench k before now old new said s → HasFilesCause before now old new said s ⊎ Goes bench old said k s
-of_files F bench (plan_job trace) before now old new said s reads (inl why) = inl why
-of_files F bench (plan_job trace) before now old new said s reads (inr why) =
+    HasPolicy bench k → CauseBy F bench k before now old new said s → HasFilesCause before now old new said s ⊎ Goes bench old said k s
+of_files F bench (plan_job trace) before now old new said s reads known (inl why) = inl why
+of_files F bench (plan_job trace) before now old new said s reads known (inr why) =
     let (port, count, is, p) = by_wire (λ port. Serves (F port) (plan_job trace) old said) s why in
     inr (inl (subst IsInterrupted (sym is) tt))
-of_files F bench (online_job trace) before now old new said s reads (inl why) = inl why
-of_files F bench (online_job trace) before now old new said s reads (inr (inl why)) =
+of_files F bench (online_job trace) before now old new said s reads known (inl why) = inl why
+of_files F bench (online_job trace) before now old new said s reads known (inr (inl why)) =
     let (port, count, is, p) = by_wire (λ port. Serves (F port) (online_job trace) old said) s why in
     inr (inl (subst IsInterrupted (sym is) tt))
-of_files F bench (online_job trace) before now old new said s reads (inr (inr why)) = inr (inr (by_epochs (λ count. IfSome old (FilesPublishMore said count)) s why))
-of_files F bench (replay_job trace) before now old new said s reads (inl why) = inl why
-of_files F bench (replay_job trace) before now old new said s reads (inr why) = inr (inr (by_epochs (λ count. IfSome old (ReplaysPublishMore bench said count)) s why))
-of_files F bench (live_job trace script) before now old new said s reads (inl why) = inl why
-of_files F bench (live_job trace script) before now old new said s reads (inr why) =
+of_files F bench (online_job trace) before now old new said s reads known (inr (inr why)) = inr (inr (by_epochs (λ count. IfSome old (FilesPublishMore said count)) s why))
+of_files F bench (replay_job trace) before now old new said s reads known (inl why) = inl why
+of_files F bench (replay_job trace) before now old new said s reads known (inr why) = inr (inr (by_epochs (λ count. IfSome old (ReplaysPublishMore bench said count)) s why))
+of_files F bench (record_job trace policy) before now old new said s reads known (inl why) = inl why
+of_files F bench (record_job trace policy) before now old new said s reads known (inr (inl why)) =
+    inr (inr (by_epochs (λ count. IfSome old (RecordPublishesMore bench policy said count)) s why))
+of_files F bench (record_job trace policy) before now old new said s reads known (inr (inr why)) = absurd (known (by_policy (LacksPolicy bench (record_job trace policy)) s why).1)
+of_files F bench (live_job trace script) before now old new said s reads known (inl why) = inl why
+of_files F bench (live_job trace script) before now old new said s reads known (inr why) =
     let (port, count, is, p) = by_wire (λ port. Serves (F port) (live_job trace script) old said) s why in
     inr (inl (subst IsInterrupted (sym is) tt))
-of_files F bench (check_job trace report) before now old new said s reads why = inl why
-of_files F bench (make_job seed) before now old new said s reads why = absurd reads
-of_files F bench (compare_job trace) before now old new said s reads why = inl why
-of_files F bench (classes_job trace) before now old new said s reads why = inl why
-of_files F bench (serve_job trace order) before now old new said s reads why = inl why
-of_files F bench (audit_job trace journal) before now old new said s reads why = inl why
+of_files F bench (check_job trace report) before now old new said s reads known why = inl why
+of_files F bench (make_job seed) before now old new said s reads known why = absurd reads
+of_files F bench (compare_job trace) before now old new said s reads known why = inl why
+of_files F bench (classes_job trace) before now old new said s reads known why = inl why
+of_files F bench (serve_job trace order) before now old new said s reads known why = inl why
+of_files F bench (audit_job trace journal) before now old new said s reads known why = inl why
 
 pub first_ends : (F : ℕ → Service → Type 0) (bench : List Meaning) (words : List Text) (by said : Said) (before now : ℕ) (old new : Option Told) (s cause : Status) →
     IsWords words by →
-    IsOfFiles words said → HasCauseOf F bench before now old new by s → IsSomeAnd old (λ t. IsFirstCause bench said t cause) → EndsBy said.job cause s ⊎ IsInterrupted s
-first_ends F bench words by said before now old new s cause read is why x = go old here x
+    IsOfFiles words said → HasPolicy bench said.job → HasCauseOf F bench before now old new by s → IsSomeAnd old (λ t. IsFirstCause bench said t cause) →
+    EndsBy said.job cause s ⊎ IsInterrupted s
+first_ends F bench words by said before now old new s cause read is known why x = go old here x
   where
     here : HasFilesCause before now old new said s ⊎ Goes bench old said said.job s
     here =
-        of_files F bench said.job before now old new said s is.reads
+        of_files F bench said.job before now old new said s is.reads known
         (subst (λ (y : Said). HasCauseOf F bench before now old new y s) (words_one words by said read is.words_say) why)
 
     go : (told : Option Told) → HasFilesCause before now told new said s ⊎ Goes bench told said said.job s → IsSomeAnd told (λ t. IsFirstCause bench said t cause) →

@@ -2,7 +2,7 @@
 use Rattle.std.proofs.Common.{◌≡◌, ℕ, inl, inr, List, refl, subst, sym}
 use Rattle.std.specs.Prelude.{IfSome, None, Option, Some}
 use Rattle.command_words.specs.Jobs.{Job, order_name, report_name, script_name}
-use Rattle.command_words.specs.Jobs.Job.{audit_job, check_job, classes_job, compare_job, live_job, make_job, online_job, plan_job, replay_job, serve_job}
+use Rattle.command_words.specs.Jobs.Job.{audit_job, check_job, classes_job, compare_job, live_job, make_job, online_job, plan_job, record_job, replay_job, serve_job}
 use Rattle.command_words.specs.Line.{Text}
 use Rattle.command_words.specs.Words.{IsWords, Said}
 use Rattle.command_words.proofs.OneMeaning.{words_one}
@@ -20,6 +20,7 @@ use Rattle.command_files.specs.OrderCauses.{IsOrderForm}
 use Rattle.coflow_units.specs.declared.quantity.Quantity.{Quantity}
 use Rattle.command_jobs.specs.Online.{FilesPublishMore}
 use Rattle.command_jobs.specs.Publishing.{CommandLimit, PublishesOver}
+use Rattle.command_jobs.specs.Record.{RecordPublishesMore}
 use Rattle.command_jobs.specs.Replay.{ReplaysPublishMore}
 use Rattle.sincronia_cli.specs.Command.{IsCommand, ReadsFiles}
 use Rattle.command_jobs.specs.Serving.{Service}
@@ -50,6 +51,9 @@ of_files F bench (online_job trace) before now old new said line (inr (inl h)) =
 of_files F bench (online_job trace) before now old new said line (inr (inr h)) = absurd h
 of_files F bench (replay_job trace) before now old new said line (inl h) = h
 of_files F bench (replay_job trace) before now old new said line (inr h) = absurd h
+of_files F bench (record_job trace policy) before now old new said line (inl h) = h
+of_files F bench (record_job trace policy) before now old new said line (inr (inl h)) = absurd h
+of_files F bench (record_job trace policy) before now old new said line (inr (inr h)) = absurd h
 of_files F bench (live_job trace script) before now old new said line (inl h) = h
 of_files F bench (live_job trace script) before now old new said line (inr h) = absurd h
 of_files F bench (audit_job trace journal) before now old new said line h = h
@@ -71,6 +75,9 @@ script_of_files F bench (online_job trace) before now old new said line field (i
 script_of_files F bench (online_job trace) before now old new said line field (inr (inr h)) = absurd h
 script_of_files F bench (replay_job trace) before now old new said line field (inl h) = h
 script_of_files F bench (replay_job trace) before now old new said line field (inr h) = absurd h
+script_of_files F bench (record_job trace policy) before now old new said line field (inl h) = h
+script_of_files F bench (record_job trace policy) before now old new said line field (inr (inl h)) = absurd h
+script_of_files F bench (record_job trace policy) before now old new said line field (inr (inr h)) = absurd h
 script_of_files F bench (live_job trace script) before now old new said line field (inl h) = h
 script_of_files F bench (live_job trace script) before now old new said line field (inr h) = absurd h
 script_of_files F bench (audit_job trace journal) before now old new said line field h = h
@@ -96,6 +103,9 @@ order_of_files F bench (online_job trace) before now old new said fault (inr (in
 order_of_files F bench (online_job trace) before now old new said fault (inr (inr h)) = absurd h
 order_of_files F bench (replay_job trace) before now old new said fault (inl h) = h
 order_of_files F bench (replay_job trace) before now old new said fault (inr h) = absurd h
+order_of_files F bench (record_job trace policy) before now old new said fault (inl h) = h
+order_of_files F bench (record_job trace policy) before now old new said fault (inr (inl h)) = absurd h
+order_of_files F bench (record_job trace policy) before now old new said fault (inr (inr h)) = absurd h
 order_of_files F bench (live_job trace script) before now old new said fault (inl h) = h
 order_of_files F bench (live_job trace script) before now old new said fault (inr h) = absurd h
 order_of_files F bench (audit_job trace journal) before now old new said fault h = h
@@ -141,6 +151,15 @@ limit_by F bench (replay_job trace) before now old new said which count same (in
     (tt, subst (MayLimit (replay_job trace)) (sym epochs) tt, over old more)
   where
     over : (told : Option Told) → IfSome told (ReplaysPublishMore bench said count) → IfSome told (CommandLimit bench said which count)
+    over None more = tt
+    over (Some t) more = inr (epochs, subst (λ (j : Job). PublishesOver bench j said count t) (sym same) more)
+limit_by F bench (record_job trace policy) before now old new said which count same (inl (may, limit)) =
+    (tt, subst (λ (j : Job). MayLimit j which) same may, limited bench old said which count limit)
+limit_by F bench (record_job trace policy) before now old new said which count same (inr (inr h)) = absurd h
+limit_by F bench (record_job trace policy) before now old new said which count same (inr (inl (epochs, more))) =
+    (tt, subst (MayLimit (record_job trace policy)) (sym epochs) tt, over old more)
+  where
+    over : (told : Option Told) → IfSome told (RecordPublishesMore bench policy said count) → IfSome told (CommandLimit bench said which count)
     over None more = tt
     over (Some t) more = inr (epochs, subst (λ (j : Job). PublishesOver bench j said count t) (sym same) more)
 limit_by F bench (live_job trace script) before now old new said which count same (inl (may, limit)) =

@@ -2,7 +2,7 @@
 use Rattle.std.proofs.Common.{◌≡◌, ℕ, ◌<◌, inl, inr, List, [], ◌∷◌, length, subst, sym, arith}
 use Rattle.std.specs.Prelude.{◌⊎◌, Option}
 use Rattle.command_words.specs.Jobs.{Job}
-use Rattle.command_words.specs.Jobs.Job.{audit_job, check_job, classes_job, compare_job, live_job, make_job, online_job, plan_job, replay_job, serve_job}
+use Rattle.command_words.specs.Jobs.Job.{audit_job, check_job, classes_job, compare_job, live_job, make_job, online_job, plan_job, record_job, replay_job, serve_job}
 use Rattle.command_words.specs.Line.{Text}
 use Rattle.command_words.specs.Words.{IsWords, Said}
 use Rattle.flow_table.specs.Table.{TableFacts}
@@ -26,6 +26,7 @@ past_without status.No none past = none tt
 past_without (status.WriteFault count) none past = none tt
 past_without (status.WireFault port count) none past = tt
 past_without status.Usage none past = past
+past_without status.UnknownPolicy none past = past
 past_without (status.BadTrace fault) none past = past
 past_without (status.BadWeights fault) none past = past
 past_without (status.BadReport line) none past = past
@@ -63,6 +64,8 @@ module _ {W : Type 0} (before after : List W) (S : TableFacts → List (List ℕ
   unsent_by (serve_job trace order) told said bench s text (is, serves) sent none = well s is none
   unsent_by (online_job trace) told said bench s text (is, run) sent none = well s is none
   unsent_by (replay_job trace) told said bench s text (is, replays) sent none = well s is none
+  unsent_by (record_job trace policy) told said bench s text outcome (inl same) none = same
+  unsent_by (record_job trace policy) told said bench s text outcome (inr serves) none = absurd serves
   unsent_by (live_job trace script) told said bench s text (is, run) sent none = well s is none
   unsent_by (audit_job trace journal) told said bench s text outcome (inl same) none = same
   unsent_by (audit_job trace journal) told said bench s text outcome (inr serves) none = absurd serves
@@ -104,6 +107,9 @@ module _ {W : Type 0} (faults : W → ℕ) (runs : W → Option (List (ℕ × �
     of_job (online_job trace) (inr (inr none)) = absurd none
     of_job (replay_job trace) (inl none) = absurd none
     of_job (replay_job trace) (inr none) = absurd none
+    of_job (record_job trace policy) (inl none) = absurd none
+    of_job (record_job trace policy) (inr (inl none)) = absurd none
+    of_job (record_job trace policy) (inr (inr none)) = absurd none
     of_job (live_job trace script) (inl none) = absurd none
     of_job (live_job trace script) (inr why) = why
 

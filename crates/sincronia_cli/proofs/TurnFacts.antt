@@ -2,7 +2,7 @@
 use Rattle.std.proofs.Common.{◌≡◌, IfErr, ℕ, List, Option, Result, Ok, Err, ap, refl, sym, subst}
 use Rattle.std.specs.Prelude.{◌⊎◌, Bool, IfSome, false, true}
 use Rattle.command_words.specs.Jobs.{Job, report_name, script_name}
-use Rattle.command_words.specs.Jobs.Job.{audit_job, check_job, classes_job, compare_job, live_job, make_job, online_job, plan_job, replay_job, serve_job}
+use Rattle.command_words.specs.Jobs.Job.{audit_job, check_job, classes_job, compare_job, live_job, make_job, online_job, plan_job, record_job, replay_job, serve_job}
 use Rattle.command_words.specs.Line.{Text}
 use Rattle.command_words.specs.Words.{IsWords, Said}
 use Rattle.command_words.proofs.OneMeaning.{words_one}
@@ -54,6 +54,7 @@ text_reads S (classes_job trace) told said bench s text (is, classes) read = sub
 text_reads S (serve_job trace order) told said bench s text (is, serves) read = subst IsReadFault is read
 text_reads S (online_job trace) told said bench s text (is, run) read = subst IsReadFault is read
 text_reads S (replay_job trace) told said bench s text (is, replays) read = subst IsReadFault is read
+text_reads S (record_job trace policy) told said bench s text (answer, is, records) read = answer_reads answer s is read
 text_reads S (live_job trace script) told said bench s text (is, run) read = subst IsReadFault is read
 text_reads S (audit_job trace journal) told said bench s text (answer, is, audits) read = answer_reads answer s is read
 
@@ -69,6 +70,7 @@ module _ (old new : Option Told) (said : Said) (s : Status) where
   done_by (classes_job trace) is other good out same = done_in_turn old new said s (ap script_name is) other good out
   done_by (online_job trace) is other good out same = done_in_turn old new said s (ap script_name is) other good out
   done_by (replay_job trace) is other good out same = done_in_turn old new said s (ap script_name is) other good out
+  done_by (record_job trace policy) is other good out same = done_in_turn old new said s (ap script_name is) other good out
   done_by (live_job trace script) is other good out same =
       live_in_turn old new said s (subst IsGiven (sym (ap script_name is)) tt) (ap report_name is) other
       (if_some old (HasGoodFiles (live_job trace script) said) (FilesGiveShared said) (λ t (shared, text). shared) good) out

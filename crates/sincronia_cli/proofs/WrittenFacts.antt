@@ -2,7 +2,7 @@
 use Rattle.std.proofs.Common.{◌≡◌, ℕ, List, refl, sym, subst, ◌∙◌}
 use Rattle.std.specs.Prelude.{Bool, Option, Ok, false, true}
 use Rattle.command_words.specs.Jobs.{Job}
-use Rattle.command_words.specs.Jobs.Job.{audit_job, check_job, classes_job, compare_job, live_job, make_job, online_job, plan_job, replay_job, serve_job}
+use Rattle.command_words.specs.Jobs.Job.{audit_job, check_job, classes_job, compare_job, live_job, make_job, online_job, plan_job, record_job, replay_job, serve_job}
 use Rattle.command_words.specs.Line.{Text}
 use Rattle.command_words.specs.Words.{IsWords, Said}
 use Rattle.flow_table.specs.Table.{TableFacts}
@@ -22,6 +22,7 @@ use Rattle.sincronia_cli.specs.Outcome.{IsOutcome, OutcomeBy, WritesNoBy}
 use Rattle.command_jobs.specs.Online.{WritesOnline}
 use Rattle.command_jobs.specs.Ordered.{WritesServed}
 use Rattle.command_jobs.specs.Plan.{WritesPlan}
+use Rattle.command_jobs.specs.Record.{PolicyOf, WritesRecord, WritesUnfit}
 use Rattle.command_jobs.specs.Replay.{WritesReplay}
 use Rattle.command_jobs.proofs.AuditFacts.{sure_sound}
 use Rattle.command_jobs.proofs.CheckFacts.{OnlineLaw, sure_yes}
@@ -87,13 +88,23 @@ module _ {X : Type 0} (E : Type 0) (S : TableFacts → List (List ℕ) → Type 
       let (answer, status_is, checks) = outcome_by S words by said (check_job trace report) told bench s text reads is outcome in
       sure_yes law told said old new text (subst (λ (v : Bool). CheckOf told said v text) (yes_for answer status_is ok) checks) (appended E old new text lent x e takes)
 
+  pub record_written : (trace policy : Text) → IsWords words by → IsCommand (record_job trace policy) words said → IsOutcome S told by bench s text → s ≡ status.Ok →
+      lent ≡ text → TakesText {E = E} old new lent (Ok x) → WritesRecord told said policy bench old new
+  record_written trace policy reads is outcome ok e takes =
+      let (answer, status_is, records) = outcome_by S words by said (record_job trace policy) told bench s text reads is outcome in
+      record {
+        text = text;
+        run = subst (λ (v : Bool). PolicyOf told said policy bench v text) (yes_for answer status_is ok) records;
+        written = appended E old new text lent x e takes;
+      }
+
   pub sound_written : (trace journal : Text) → IsWords words by → IsCommand (audit_job trace journal) words said → IsOutcome S told by bench s text → s ≡ status.Ok → lent ≡ text →
       TakesText {E = E} old new lent (Ok x) → WritesSound told said old new
   sound_written trace journal reads is outcome ok e takes =
       let (answer, status_is, audits) = outcome_by S words by said (audit_job trace journal) told bench s text reads is outcome in
       sure_sound told said old new text (subst (λ (v : Bool). AuditOf told said v text) (yes_for answer status_is ok) audits) (appended E old new text lent x e takes)
 
-  pub no_written : IsOutcome S told by bench s text → s ≡ status.No → lent ≡ text → TakesText {E = E} old new lent (Ok x) → WritesNoBy by.job told by old new
+  pub no_written : IsOutcome S told by bench s text → s ≡ status.No → lent ≡ text → TakesText {E = E} old new lent (Ok x) → WritesNoBy bench by.job told by old new
   no_written outcome wrong e takes = by_job by.job outcome
     where
       by_answer : (answer : Bool) → s ≡ status_for answer → CheckOf told by answer text → WritesNo told by old new
@@ -104,7 +115,11 @@ module _ {X : Type 0} (E : Type 0) (S : TableFacts → List (List ℕ) → Type 
       by_verdict true is audits = let bad : status.Ok ≡ status.No = sym is ∙ wrong in cc
       by_verdict false is audits = record { text = text; audits = audits; written = appended E old new text lent x e takes }
 
-      by_job : (k : Job) → OutcomeBy S k told by bench s text → WritesNoBy k told by old new
+      by_policy : (policy : Text) (answer : Bool) → s ≡ status_for answer → PolicyOf told by policy bench answer text → WritesUnfit told by policy bench old new
+      by_policy policy true is record_of = let bad : status.Ok ≡ status.No = sym is ∙ wrong in cc
+      by_policy policy false is unfit = record { text = text; run = unfit; written = appended E old new text lent x e takes }
+
+      by_job : (k : Job) → OutcomeBy S k told by bench s text → WritesNoBy bench k told by old new
       by_job (plan_job trace) (is, plan) = let bad : status.Ok ≡ status.No = sym is ∙ wrong in cc
       by_job (check_job trace report) (answer, is, checks) = by_answer answer is checks
       by_job (make_job seed) (is, made) = let bad : status.Ok ≡ status.No = sym is ∙ wrong in cc
@@ -112,6 +127,7 @@ module _ {X : Type 0} (E : Type 0) (S : TableFacts → List (List ℕ) → Type 
       by_job (classes_job trace) (is, classes) = let bad : status.Ok ≡ status.No = sym is ∙ wrong in cc
       by_job (serve_job trace order) (is, serves) = let bad : status.Ok ≡ status.No = sym is ∙ wrong in cc
       by_job (replay_job trace) (is, replays) = let bad : status.Ok ≡ status.No = sym is ∙ wrong in cc
+      by_job (record_job trace policy) (answer, is, records) = by_policy policy answer is records
       by_job (live_job trace script) (is, run) = let bad : status.Ok ≡ status.No = sym is ∙ wrong in cc
       by_job (online_job trace) (is, run) = let bad : status.Ok ≡ status.No = sym is ∙ wrong in cc
       by_job (audit_job trace journal) (answer, is, audits) = by_verdict answer is audits

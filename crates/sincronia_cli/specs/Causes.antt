@@ -1,7 +1,8 @@
--- Why a command wrote nothing: what is wrong with its files, a wire that failed, or too many publishings.
+-- Why a command wrote nothing: what is wrong with its files, a wire that failed, too many publishings, or a policy that no
+-- ranker has.
 use Rattle.std.specs.Prelude.{ℕ, ◌⊎◌, List, Option, IfSome}
 use Rattle.command_words.specs.Jobs.{Job}
-use Rattle.command_words.specs.Jobs.Job.{audit_job, check_job, classes_job, compare_job, live_job, make_job, online_job, plan_job, replay_job, serve_job}
+use Rattle.command_words.specs.Jobs.Job.{audit_job, check_job, classes_job, compare_job, live_job, make_job, online_job, plan_job, record_job, replay_job, serve_job}
 use Rattle.command_words.specs.Words.{Said}
 use Rattle.outside.specs.Shelf.{Told}
 use Rattle.rankers.specs.Meaning.{Meaning}
@@ -10,6 +11,7 @@ use Rattle.command_files.specs.JobCauses.{HasFilesCause}
 use Rattle.command_files.specs.WireCauses.{IsWireCause}
 use Rattle.command_jobs.specs.Make.{HasMadeCause}
 use Rattle.command_jobs.specs.Online.{FilesPublishMore, IsEpochsCause}
+use Rattle.command_jobs.specs.Record.{IsPolicyCause, LacksPolicy, RecordPublishesMore}
 use Rattle.command_jobs.specs.Replay.{ReplaysPublishMore}
 use Rattle.command_jobs.specs.Serving.{Serves, Service}
 
@@ -37,6 +39,10 @@ CauseBy F bench (serve_job trace order) before now old new said status = HasFile
 CauseBy F bench (replay_job trace) before now old new said status =
     HasFilesCause before now old new said status
     ⊎ IsEpochsCause (λ count. IfSome old (ReplaysPublishMore bench said count)) status
+CauseBy F bench (record_job trace policy) before now old new said status =
+    HasFilesCause before now old new said status
+    ⊎ (IsEpochsCause (λ count. IfSome old (RecordPublishesMore bench policy said count)) status
+    ⊎ IsPolicyCause (LacksPolicy bench (record_job trace policy)) status)
 
 -- what is said has this cause of the status
 abbrev pub HasCauseOf : (ℕ → Service → Type 0) → List Meaning → ℕ → ℕ → Option Told → Option Told → Said → Status →

@@ -1,7 +1,7 @@
 -- What each command has to write, and with which status its job ends then.
 use Rattle.std.specs.Prelude.{◌≡◌, ℕ, Bool, List, Option}
 use Rattle.command_words.specs.Jobs.{Job}
-use Rattle.command_words.specs.Jobs.Job.{audit_job, check_job, classes_job, compare_job, live_job, make_job, online_job, plan_job, replay_job, serve_job}
+use Rattle.command_words.specs.Jobs.Job.{audit_job, check_job, classes_job, compare_job, live_job, make_job, online_job, plan_job, record_job, replay_job, serve_job}
 use Rattle.command_words.specs.Words.{Said}
 use Rattle.flow_table.specs.Table.{TableFacts}
 use Rattle.outside.specs.Shelf.{Told}
@@ -18,6 +18,7 @@ use Rattle.command_jobs.specs.Live.{LiveOf}
 use Rattle.command_jobs.specs.Online.{OnlineOf}
 use Rattle.command_jobs.specs.Ordered.{ServedOf}
 use Rattle.command_jobs.specs.Plan.{PlanOf}
+use Rattle.command_jobs.specs.Record.{PolicyOf, WritesUnfit}
 use Rattle.command_jobs.specs.Replay.{ReplayOf}
 
 module _ (Sent : TableFacts → List (List ℕ) → Type 0) where
@@ -36,6 +37,8 @@ module _ (Sent : TableFacts → List (List ℕ) → Type 0) where
   OutcomeBy (live_job trace script) told said bench status text = (status ≡ Ok) × LiveOf Sent told said text
   OutcomeBy (serve_job trace order) told said bench status text = (status ≡ Ok) × ServedOf told said text
   OutcomeBy (replay_job trace) told said bench status text = (status ≡ Ok) × ReplayOf told said bench text
+  OutcomeBy (record_job trace policy) told said bench status text =
+      (yes : Bool) × (status ≡ status_for yes) × PolicyOf told said policy bench yes text
 
   -- what is said has this text and this status
   abbrev pub IsOutcome : Option Told → Said → List Meaning → Status → List ℕ → Type 0
@@ -49,11 +52,13 @@ module _ (Sent : TableFacts → List (List ℕ) → Type 0) where
     pub outcome : IsOutcome told said bench status text
     pub written : AppendsBeginning old new text
 
--- The job answered no, and its line was written: that on a report, or that on a printed journal.
-abbrev pub WritesNoBy : Job → Option Told → Said → Option (List ℕ) → Option (List ℕ) → Type 0
-WritesNoBy (check_job trace report) told said old new = WritesNo told said old new
-WritesNoBy (audit_job trace journal) told said old new = WritesUnsound told said old new
-WritesNoBy job told said old new = ⊥
+-- The job answered no, where the bench has these rankers, and its text was written: the line on a report, that on a printed
+-- journal, or the report of a ranker whose answer is no order.
+abbrev pub WritesNoBy : List Meaning → Job → Option Told → Said → Option (List ℕ) → Option (List ℕ) → Type 0
+WritesNoBy bench (check_job trace report) told said old new = WritesNo told said old new
+WritesNoBy bench (audit_job trace journal) told said old new = WritesUnsound told said old new
+WritesNoBy bench (record_job trace policy) told said old new = WritesUnfit told said policy bench old new
+WritesNoBy bench job told said old new = ⊥
 
 -- there was a text to be written
 abbrev pub HasText : Status → Type 0

@@ -1,8 +1,8 @@
 //! What a job comes to: the text to be written, or why there is none.
-ghost use Rattle.std.specs.Prelude.{◌≡◌, ◌≢◌, ◌≤◌, ◌<◌, ◌^◌, ◌⊎◌, ℕ, [], All, IfErr, IfOk, IfSome, List, OnOk, drop, length, map, take};
+ghost use Rattle.std.specs.Prelude.{◌≡◌, ◌≢◌, ◌≤◌, ◌<◌, ◌^◌, ◌⊎◌, ℕ, [], All, Err, IfErr, IfOk, IfSome, List, OnOk, drop, length, map, take};
 ghost use Rattle.coflow_units.specs.declared.limits.TheConstants.{MAX_CLIENTS, MAX_PORTS};
 ghost use Rattle.coflow_units.specs.declared.quantity.Quantity.TheVariants.{Epochs};
-ghost use Rattle.command_words.specs.Jobs.Job.{live_job, make_job, replay_job};
+ghost use Rattle.command_words.specs.Jobs.Job.{live_job, make_job, record_job, replay_job};
 ghost use Rattle.command_words.specs.Words.{said_by};
 ghost use Rattle.rankers.specs.FactsTold.{FactsTold};
 ghost use Rattle.hall_plan.specs.Sent.{SendsAll};
@@ -12,6 +12,7 @@ ghost use Rattle.command_files.specs.GoodFiles.{HasGoodFiles};
 ghost use Rattle.command_files.specs.Ends.{CountsFault, IfPastFiles};
 ghost use Rattle.command_jobs.specs.Compare.{IsFactsOfFiles};
 ghost use Rattle.command_jobs.specs.Publishing.{PublishesFew};
+ghost use Rattle.command_jobs.specs.Record.{LacksPolicy};
 ghost use Rattle.sincronia_cli.specs.Outcome.{IsOutcome};
 ghost use Rattle.command_jobs.specs.Serving.{MayHaveSent, Sends, Serves, Stops};
 ghost use Rattle.command_files.specs.Shelves.{KeepsFiles, OfBoth, ReadsOut};
@@ -20,7 +21,7 @@ ghost use Rattle.command_files.specs.Turns.{FilesInTurn};
 use command_files::{Outcome, Status};
 use command_jobs::{
     audit_journal, check_report, compare_rankers, list_classes, make_workload, plan_trace,
-    replay_rankers, run_clients, run_online, serve_order,
+    record_policy, replay_rankers, run_clients, run_online, serve_order,
 };
 use command_words::{Job, Words};
 use live_rounds::Gate;
@@ -36,7 +37,8 @@ use std::thread::Threads;
 /// fewer than 2^32 rankers.
 ///
 /// The error is the status of why there is nothing to write: what is wrong first with the files, in the order in which they are read; a call to the shelf that failed, by which
-/// its count of faults rose; the wire that did not accept a unit; too many publishings of an online run or of a replay; or that no memory was to be had.
+/// its count of faults rose; the wire that did not accept a unit; too many publishings of an online run or of a replay;
+/// a policy that no ranker of the bench has, where no file was looked at; or that no memory was to be had.
 pub fn carry_out<'a, R: Threads + Wait + Sync, H: Shelf, W: Wire + Send, G: Gate + Send>(
     rt: &R,
     alloc: Global,
@@ -56,6 +58,7 @@ pub fn carry_out<'a, R: Threads + Wait + Sync, H: Shelf, W: Wire + Send, G: Gate
     ensures empty { OnOk result (AsksBench (said_by words.entry).job → bench.new.items ≡ []) }
     ensures left { (reached : ℕ) × (bench.new.items ≡ drop reached bench.old.items) ×
         (((trace : List ℕ) → (said_by words.entry).job ≡ replay_job trace → ⊥) →
+        ((trace policy : List ℕ) → (said_by words.entry).job ≡ record_job trace policy → ⊥) →
         All (λ b. (facts : FactsTold) × IsFactsOfFiles (H.told shelf.old) (said_by words.entry) facts ×
         answered b facts) (take reached bench.old.items)) }
     ensures same_bench { IfErr result (λ status. status ≢ Status.NoMemory →
@@ -77,6 +80,10 @@ pub fn carry_out<'a, R: Threads + Wait + Sync, H: Shelf, W: Wire + Send, G: Gate
         (H.faults shelf.old) (H.faults shelf.new) (H.told shelf.old) (H.told shelf.new) (said_by words.entry)) }
     ensures keeps { KeepsFiles (H.told shelf.old) (H.told shelf.new) }
     ensures counts { CountsFault (H.faults shelf.old) (H.faults shelf.new) result }
+    ensures lacks_policy { LacksPolicy (map (λ b. meaning b) bench.old.items) (said_by words.entry).job →
+        result ≡ Err Status.UnknownPolicy }
+    ensures unread { result ≡ Err Status.UnknownPolicy →
+        (H.told shelf.new ≡ H.told shelf.old) × (H.faults shelf.new ≡ H.faults shelf.old) }
     ensures untouched { (seed : ℕ) → (said_by words.entry).job ≡ make_job seed →
         (H.told shelf.new ≡ H.told shelf.old) × (H.faults shelf.new ≡ H.faults shelf.old) }
 {
@@ -100,5 +107,8 @@ pub fn carry_out<'a, R: Threads + Wait + Sync, H: Shelf, W: Wire + Send, G: Gate
         ),
         Job::Serve { trace, order } => serve_order(alloc, trace, order, words.options, shelf),
         Job::Replay { trace } => replay_rankers(alloc, trace, words.options, shelf, bench),
+        Job::Record { trace, policy } => {
+            record_policy(alloc, trace, policy, words.options, shelf, bench)
+        }
     }
 }

@@ -4,7 +4,7 @@ ghost use Rattle.coflow_units.specs.declared.limits.TheConstants.{MAX_CLIENTS, M
 ghost use Rattle.coflow_units.specs.declared.quantity.Quantity.{Quantity};
 ghost use Rattle.coflow_units.specs.declared.quantity.Quantity.TheVariants.{Epochs};
 ghost use Rattle.command_words.specs.Jobs.{order_name, report_name, script_name};
-ghost use Rattle.command_words.specs.Jobs.Job.{audit_job, check_job, classes_job, compare_job, live_job, make_job, online_job, plan_job, replay_job, serve_job};
+ghost use Rattle.command_words.specs.Jobs.Job.{audit_job, check_job, classes_job, compare_job, live_job, make_job, online_job, plan_job, record_job, replay_job, serve_job};
 ghost use Rattle.command_words.specs.Line.{texts};
 ghost use Rattle.command_words.specs.Words.{IsWords, Said};
 ghost use Rattle.orders.specs.declared.fault.OrderFault.{OrderFault};
@@ -32,6 +32,7 @@ ghost use Rattle.command_jobs.specs.Make.{WritesMade};
 ghost use Rattle.command_jobs.specs.Online.{WritesOnline};
 ghost use Rattle.command_jobs.specs.Ordered.{WritesServed};
 ghost use Rattle.command_jobs.specs.Plan.{WritesPlan};
+ghost use Rattle.command_jobs.specs.Record.{HasPolicy, LacksPolicy, WritesRecord};
 ghost use Rattle.command_jobs.specs.Replay.{WritesReplay};
 ghost use Rattle.command_jobs.specs.Audit.{WritesSound};
 ghost use Rattle.command_jobs.specs.Check.{WritesYes};
@@ -62,8 +63,9 @@ use std::thread::Threads;
 /// and drop them one after another.
 ///
 /// Trace, weights and one more file are read in this order, and the first fault ends the job: its status says the fault, and nothing
-/// is written. At `Ok` and `No` the text was written whole, at `WriteFault` a beginning of it. No call that failed is tried again:
-/// the count of faults of the shelf, the sink or the wire rises by one. `NoMemory` may come in place of any answer.
+/// is written. A policy that no ranker of the bench has is told before a file is looked at. At `Ok` and `No` the text was written
+/// whole, at `WriteFault` a beginning of it. No call that failed is tried again: the count of faults of the shelf, the sink or the
+/// wire rises by one. `NoMemory` may come in place of any answer.
 ///
 /// What is said here of bytes, of files that are looked at and of units holds where shelf, sink and wires tell them, as those
 /// in memory do. The others tell their counts of faults alone.
@@ -89,7 +91,8 @@ pub fn sincronia<R: Threads + Wait + Sync, H: Shelf, K: Sink, W: Wire + Send, G:
         IsCommand (audit_job trace journal) (texts words.now) said → result ≡ Status.Ok →
         WritesSound (H.told shelf.old) said (K.taken out.old) (K.taken out.new) }
     ensures no { result ≡ Status.No → (said : Said) × IsWords (texts words.now) said ×
-        WritesNoBy said.job (H.told shelf.old) said (K.taken out.old) (K.taken out.new) }
+        WritesNoBy (map (λ b. meaning b) bench.old.items) said.job (H.told shelf.old) said (K.taken out.old)
+        (K.taken out.new) }
     ensures online { (said : Said) (trace : List ℕ) → IsCommand (online_job trace) (texts words.now) said →
         result ≡ Status.Ok → WritesOnline (SendsAll W.runs wires.old.items wires.new.items) (H.told shelf.old) said
         (K.taken out.old) (K.taken out.new) }
@@ -111,10 +114,15 @@ pub fn sincronia<R: Threads + Wait + Sync, H: Shelf, K: Sink, W: Wire + Send, G:
     ensures replay { (said : Said) (trace : List ℕ) → IsCommand (replay_job trace) (texts words.now) said →
         result ≡ Status.Ok → WritesReplay (H.told shelf.old) said (map (λ b. meaning b) bench.old.items)
         (K.taken out.old) (K.taken out.new) }
+    ensures record { (said : Said) (trace policy : List ℕ) →
+        IsCommand (record_job trace policy) (texts words.now) said → result ≡ Status.Ok →
+        WritesRecord (H.told shelf.old) said policy (map (λ b. meaning b) bench.old.items) (K.taken out.old)
+        (K.taken out.new) }
     ensures empty { (said : Said) → IsWords (texts words.now) said → AsksBench said.job → HasText result →
         bench.new.items ≡ [] }
     ensures left { (reached : ℕ) × (bench.new.items ≡ drop reached bench.old.items) ×
         (((said : Said) (trace : List ℕ) → IsCommand (replay_job trace) (texts words.now) said → ⊥) →
+        ((said : Said) (trace policy : List ℕ) → IsCommand (record_job trace policy) (texts words.now) said → ⊥) →
         All (λ b. (said : Said) × IsWords (texts words.now) said × (facts : FactsTold) ×
         IsFactsOfFiles (H.told shelf.old) said facts × answered b facts) (take reached bench.old.items)) }
     ensures same_bench { (HasText result → ⊥) → result ≢ Status.NoMemory →
@@ -131,6 +139,7 @@ pub fn sincronia<R: Threads + Wait + Sync, H: Shelf, K: Sink, W: Wire + Send, G:
         IsStill (K.faults out.old) (K.faults out.new) → AreStill W.faults wires.old.items wires.new.items →
         EndsWell said.job result ⊎ (result ≡ Status.NoMemory) }
     ensures first { (said : Said) (cause : Status) → IsOfFiles (texts words.now) said →
+        HasPolicy (map (λ b. meaning b) bench.old.items) said.job →
         IsSomeAnd (H.told shelf.old) (λ t. IsFirstCause (map (λ b. meaning b) bench.old.items) said t cause) →
         EndsBy said.job cause result ⊎ IsInterrupted result }
     ensures good { IsPastFiles result → (said : Said) × IsWords (texts words.now) said ×
@@ -140,6 +149,13 @@ pub fn sincronia<R: Threads + Wait + Sync, H: Shelf, K: Sink, W: Wire + Send, G:
     ensures in_turn { (said : Said) → IsWords (texts words.now) said →
         OfBoth (H.told shelf.old) (H.told shelf.new) (FilesInTurn said result) }
     ensures usage { result ≡ Status.Usage → (said : Said) → IsWords (texts words.now) said → ⊥ }
+    ensures unknown_policy { result ≡ Status.UnknownPolicy → (said : Said) × IsWords (texts words.now) said ×
+        LacksPolicy (map (λ b. meaning b) bench.old.items) said.job }
+    ensures lacks_policy { (said : Said) → IsWords (texts words.now) said →
+        LacksPolicy (map (λ b. meaning b) bench.old.items) said.job →
+        (result ≡ Status.UnknownPolicy) ⊎ (result ≡ Status.NoMemory) }
+    ensures unread { result ≡ Status.UnknownPolicy →
+        (H.told shelf.new ≡ H.told shelf.old) × (H.faults shelf.new ≡ H.faults shelf.old) }
     ensures words { result ≢ Status.Usage → result ≢ Status.NoMemory → (said : Said) × IsWords (texts words.now) said }
     ensures bad_trace { (fault : TraceFault) → result ≡ Status.BadTrace fault →
         (said : Said) × IsOfFiles (texts words.now) said × IsTraceForm fault ×

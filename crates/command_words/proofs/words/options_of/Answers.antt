@@ -1,8 +1,9 @@
-use Rattle.std.proofs.Common.{◌≡◌, ◌∙◌, IfNone, None, Option, ap, sym, subst}
+use Rattle.std.proofs.Common.{◌≡◌, ◌∙◌, IfNone, IfSome, None, Option, ap, sym, subst}
 use Rattle.std.proofs.lemmas.Option.{none-some}
 use Rattle.coflow_units.specs.declared.limits.TheConstants.{MAX_OPTION_SLOTS, MAX_SLOT_MS, MAX_UNIT}
 use Rattle.clap.specs.Words.{first_value, found_of}
 use Rattle.clap.specs.declared.parser.matches.Found.{Found}
+use Rattle.command_words.specs.Jobs.{IsPolicy}
 use Rattle.command_words.specs.Words.{IsSaid, IsSetting, Said, fold_of}
 use Rattle.command_words.specs.declared.options.TheConstants.{MAX_OPTION_AGENTS, MAX_OPTION_CLASSES}
 use Rattle.command_words.specs.declared.options.Options.{Options}
@@ -60,4 +61,5 @@ returns-clause-some c = λ job is. record {
   classes = subst (λ v. IsSetting MAX_OPTION_CLASSES 8 v c.in_ok-classes.classes) c.get_str-6.ensures c.in_ok-classes.ensures.some;
   fold = ap fold_of (sym c.get_str-7.ensures) ∙ sym c.in_ok-fold.ensures;
   weights_fit = c.is_optional_name.ensures.0 (cc);
+  policy_fit = subst (λ v. IfSome v IsPolicy) c.get_str-policy.ensures (c.is_optional_policy.ensures.0 (cc));
 }

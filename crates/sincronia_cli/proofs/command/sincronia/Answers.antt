@@ -15,13 +15,26 @@ use Rattle.command_files.proofs.SinkFacts.{begun}
 use Rattle.sincronia_cli.proofs.ServingFacts.{none_failed, past_by_wire, sent_by, unsent_for, wire_failed}
 use Rattle.sincronia_cli.proofs.TurnFacts.{done_by, out_for, text_in_turn, turn_for}
 use Rattle.sincronia_cli.proofs.WrittenFacts.{classes_written, comparison_written, live_written, made_written, no_written}
-use Rattle.sincronia_cli.proofs.WrittenFacts.{online_written, plan_written, replay_written, served_written, sound_written, yes_written}
+use Rattle.sincronia_cli.proofs.WrittenFacts.{online_written, plan_written, record_written, replay_written, served_written, sound_written, yes_written}
 use Rattle.command_files.specs.Ends.{IsWriteFault}
-use Rattle.sincronia_cli.proofs.FilesCauses.{bad_trace_given, bad_weights_given, no_write_fault, read_fault_given, usage_given}
+use Rattle.sincronia_cli.proofs.FilesCauses.{bad_trace_given, bad_weights_given, no_write_fault, policy_given, read_fault_given, usage_given}
 use Rattle.sincronia_cli.proofs.command.sincronia.Goals as goal
 
 pub returns-in-Err-Usage-clause-usage : goal.returns-in-Err-Usage-clause-usage
 returns-in-Err-Usage-clause-usage g c = λ e said is. c.in-Err-Usage.ensures.usage (ap Err c.in-Err-Usage.field-0-is) said is
+
+pub returns-in-Err-Usage-clause-lacks_policy : goal.returns-in-Err-Usage-clause-lacks_policy
+returns-in-Err-Usage-clause-lacks_policy g c = λ said is lacks. absurd (c.in-Err-Usage.ensures.usage (ap Err c.in-Err-Usage.field-0-is) said is)
+
+pub returns-in-Err-clause-unknown_policy : goal.returns-in-Err-clause-unknown_policy
+returns-in-Err-clause-unknown_policy g c = λ e. (
+  said_by c.in-Ok.words,
+  c.in-Ok.ensures.said,
+  policy_given (Stops g.W.Wire.faults g.W.Wire.runs c.args.wires.now.items c.carry_out.new.wires.items)
+      (map (λ b. (goal.Ranker-dyn g (b.vtable, b.value)).meaning b.value) c.args.bench.now.items)
+      (said_by c.in-Ok.words) (g.H.Shelf.faults c.args.shelf.now) (g.H.Shelf.faults c.carry_out.new.shelf)
+      (g.H.Shelf.told c.args.shelf.now) (g.H.Shelf.told c.carry_out.new.shelf) c.in-Err.status c.in-Err.ensures.cause e,
+)
 
 pub returns-in-Err-clause-bad_report : goal.returns-in-Err-clause-bad_report
 returns-in-Err-clause-bad_report g c = λ line e.
@@ -139,17 +152,17 @@ returns-in-Err-clause-complete g c = λ said is good shelf sink wires.
     (none_failed g.W.Wire.faults g.W.Wire.runs c.args.wires.now.items c.carry_out.new.wires.items wires)
 
 pub returns-in-Err-Usage-clause-first : goal.returns-in-Err-Usage-clause-first
-returns-in-Err-Usage-clause-first g c = λ said cause is x. absurd (c.in-Err-Usage.ensures.usage (ap Err c.in-Err-Usage.field-0-is) said is.words_say)
+returns-in-Err-Usage-clause-first g c = λ said cause is known x. absurd (c.in-Err-Usage.ensures.usage (ap Err c.in-Err-Usage.field-0-is) said is.words_say)
 
 pub returns-in-Err-clause-first : goal.returns-in-Err-clause-first
-returns-in-Err-clause-first g c = λ said cause is x.
+returns-in-Err-clause-first g c = λ said cause is known x.
     first_ends (Stops g.W.Wire.faults g.W.Wire.runs c.args.wires.now.items c.carry_out.new.wires.items)
     (map (λ b. (goal.Ranker-dyn g (b.vtable, b.value)).meaning b.value) c.args.bench.now.items)
     (texts c.args.words.now) (said_by c.in-Ok.words) said (g.H.Shelf.faults c.args.shelf.now) (g.H.Shelf.faults c.carry_out.new.shelf)
-    (g.H.Shelf.told c.args.shelf.now) (g.H.Shelf.told c.carry_out.new.shelf) c.in-Err.status cause c.in-Ok.ensures.said is c.in-Err.ensures.cause x
+    (g.H.Shelf.told c.args.shelf.now) (g.H.Shelf.told c.carry_out.new.shelf) c.in-Err.status cause c.in-Ok.ensures.said is known c.in-Err.ensures.cause x
 
 pub returns-clause-first : goal.returns-clause-first
-returns-clause-first g c = λ said cause is x.
+returns-clause-first g c = λ said cause is known x.
     let outcome = c.in-Ok-carry_out.outcome in
     text_ends (SendsAll g.W.Wire.runs c.args.wires.now.items c.carry_out.new.wires.items) (texts c.args.words.now) (said_by c.in-Ok.words) said
     (g.H.Shelf.told c.args.shelf.now)
@@ -261,6 +274,13 @@ returns-clause-replay g c = λ said trace is e.
     (g.H.Shelf.told c.args.shelf.now) (map (λ b. (goal.Ranker-dyn g (b.vtable, b.value)).meaning b.value) c.args.bench.now.items) c.in-Ok-carry_out.outcome.status
     c.in-Ok-carry_out.outcome.text c.in-Ok-writer.writer (g.K.Sink.taken c.args.out.now) (g.K.Sink.taken c.write_to.new.sink) c.in-Ok-write_to.field-0 trace
     c.in-Ok.ensures.said is c.in-Ok-carry_out.ensures.outcome c.in-Ok-writer.ensures c.in-Ok-write_to.ensures.taken
+
+pub returns-clause-record : goal.returns-clause-record
+returns-clause-record g c = λ said trace policy is e.
+    record_written _ (SendsAll g.W.Wire.runs c.args.wires.now.items c.carry_out.new.wires.items) (texts c.args.words.now) (said_by c.in-Ok.words) said
+    (g.H.Shelf.told c.args.shelf.now) (map (λ b. (goal.Ranker-dyn g (b.vtable, b.value)).meaning b.value) c.args.bench.now.items) c.in-Ok-carry_out.outcome.status
+    c.in-Ok-carry_out.outcome.text c.in-Ok-writer.writer (g.K.Sink.taken c.args.out.now) (g.K.Sink.taken c.write_to.new.sink) c.in-Ok-write_to.field-0 trace policy
+    c.in-Ok.ensures.said is c.in-Ok-carry_out.ensures.outcome e c.in-Ok-writer.ensures c.in-Ok-write_to.ensures.taken
 
 pub returns-in-Err-clause-empty : goal.returns-in-Err-clause-empty
 returns-in-Err-clause-empty g c = λ said is asks text.
