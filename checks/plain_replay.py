@@ -3,10 +3,11 @@
 
 Use: checks/plain_replay.py [TRACES]             The last line is 'N passed, M failed'; the exit code is 0 where none failed.
      checks/plain_replay.py --plain [TRACES]     compares the plain program with the one of `plain_online.py` and with worked texts alone; no built program is needed.
-     checks/plain_replay.py --text TRACE [--weights FILE] [--unit MB] [--epoch SLOTS] [--slot-ms MS]     prints the text of the plain program.
+     checks/plain_replay.py --text TRACE [--policy NAME] [--weights FILE] [--unit MB] [--epoch SLOTS] [--slot-ms MS]     prints the text of the plain program.
 
 Of each trace the row of `bssi` is the online run, the weighted arrivals are at most the total, and the total is at least that of the online run and at most each cost. Where a trace has few units, the least cost
-of all schedules that serve nobody before its arrival is found by search: it is neither below the total nor above a cost. Then come worked texts, traces at the limit of orders, and words and files that are refused
+of all schedules that serve nobody before its arrival is found by search: it is neither below the total nor above a cost. The record of one ranker is compared too: `check` says yes to it, and that of `bssi` is the
+text of the online run but for the certificate. Then come worked texts, traces at the limit of orders, and words and files that are refused
 as `online` refuses them.
 """
 import random
@@ -16,11 +17,12 @@ import tempfile
 sys.dont_write_bytecode = True  # the folder stays as it is
 
 from online_runs import Instance, facts_of, least_cost, online_of
+from online_runs import text_of as online_text
 from plain_online import SEARCHED, Kind, drawn, options_of, ran, trace_text
 from plain_compare import PAGES, shown
 from plain_plan import TOP, Coflow, flows_of, up, weights_text, write
 from plain_stats import value_in
-from replay_runs import LIMIT, ORDERS, QUARTERS, bench, certified, cost_of, instance_of, replays_of, runs_of, text_of, told_of
+from replay_runs import LIMIT, ORDERS, QUARTERS, UNKNOWN, bench, certified, cost_of, record_of, record_told, replays_of, runs_of, said_by, text_of, told_of
 
 # Drawn traces
 
@@ -95,10 +97,30 @@ def wrong_numbers(instance, seen):
         return "the certificate of the threshold 1 is not that of the online run"
     if not replays.arrivals <= total <= min(costs):
         return "the total is below the arrivals, or above a cost"
+    if without_release(online_text(record_of(instance, bench()[0][1]))) != without_release(online_text(online)):
+        return "the record of bssi is not the online run"
     if sum(flow.units for flow in facts.flows) <= SEARCHED and max(facts.times, default=0) < 40:
         seen.add("searched")
         if not total <= least_cost(facts) <= min(costs):
             return "a schedule costs less than the total, or all cost more than a row"
+    return None
+
+
+def without_release(text):
+    """The lines of an online run but those of the certificate."""
+    return [line for line in text.splitlines() if line.split()[0] not in ("release", "total")]
+
+
+def record_fault(folder, instance, options, name):
+    """What is wrong with the record of the ranker of this name, or None."""
+    told = ran(folder, ["replay", "--policy", name, "trace", *options])
+    if told != told_of(instance, name):
+        return "another record is printed of " + name
+    write(folder, "record", told[1])
+    kept = [word for pair in zip(options[::2], options[1::2]) if pair[0] != "--epoch" for word in pair]
+    verdict = "yes total %d cost %d\n" % (value_in(told[1], "total"), value_in(told[1], "cost"))
+    if ran(folder, ["check", "trace", "record", *kept]) != (0, verdict, ""):
+        return "check does not say yes to the record of " + name
     return None
 
 
@@ -115,7 +137,7 @@ def fault_of(folder, instance, options, seen):
     online = ran(folder, ["online", "trace", *options])[1]
     if value_in(text, "total") < value_in(online, "total") or "row 1 bssi cost %d" % value_in(online, "cost") not in text.splitlines():
         return "the total is below that of the online run, or bssi has another cost"
-    return None
+    return record_fault(folder, instance, options, bench()[len(text) % len(bench())][0])
 
 
 # Worked texts, limits and refusals
@@ -127,6 +149,23 @@ def rows(*costs):
 
 SHARED = "1 3\n2 26 1 1 1 0:3\n8 27 1 1 1 0:1\n3 20 1 1 1 0:2\n"
 LATER = "2 2\n1 0 1 0 1 1:6\n2 16 1 0 1 1:1\n"
+# the record of a ranker on it, with the ids in its second order, the completions, the cost and the runs
+RECORD = """sincronia online 2
+epoch 0
+place 1 1 in 0 183251937962
+bound 6
+epoch 4
+place 1 %s in 0 549755813888
+place 2 %s in 0 549755813888
+bound 4
+done 1 %s
+done 2 %s
+cost %s
+release 1 2 in 0 0 916259689814
+release 2 1 in 0 183251937962 4
+total 10
+%send
+"""
 
 # the words behind the name of the trace, the trace, the weights, and the text, which was worked out by hand
 WORKED = [
@@ -136,6 +175,10 @@ WORKED = [
     # Without an order behind the first one, it is the order of joining that is served; in units of 2 megabytes that takes 3 slots and 1, and the second coflow arrives at time 4.
     ([], LATER, "", "sincronia replay 1\ntotal 10\narrivals 2\n" + rows(13, 13, 13, 13, 13) + "end\n"),
     (["--unit=2", "--slot-ms", "4"], LATER, "", "sincronia replay 1\ntotal 8\narrivals 4\n" + rows(8, 8, 8, 8, 8) + "end\n"),
+    # fifo lets the first coflow go on; what the places charge is what the certificate of the order by bssi does.
+    (["--epoch", "4", "--policy", "fifo"], LATER, "", RECORD % ("1", "2", "6", "7", "13", "run 6 0\nrun 1 1\n")),
+    (["--epoch", "4", "--policy", "bssi"], LATER, "", RECORD % ("2", "1", "7", "5", "12", "run 4 0\nrun 1 1\nrun 2 0\n")),
+    (["--policy=wsebf"], "2 0\n", "", "sincronia online 2\ncost 0\ntotal 0\nend\n"),
     ([], "2 0\n", "", "sincronia replay 1\ntotal 0\narrivals 0\n" + rows(0, 0, 0, 0, 0) + "end\n"),
     ([], "1 1\n7 80 1 0 1 0:0\n", "", "sincronia replay 1\ntotal 0\narrivals 0\n" + rows(0, 0, 0, 0, 0) + "end\n"),
 ]
@@ -145,7 +188,7 @@ def worked_fault(folder, built, words, trace, weights, text):
     """What is wrong with a worked text, or None."""
     write(folder, "trace", trace)
     write(folder, "weights", weights)
-    if told_of(instance_of(folder, ["trace", *words])) != (0, text, ""):
+    if told_of(*said_by(folder, ["trace", *words])) != (0, text, ""):
         return "the plain program prints another text"
     if built and ran(folder, ["replay", "trace", *words]) != (0, text, ""):
         return "the built program prints another text"
@@ -175,6 +218,9 @@ def scripted_fault():
     wrong = [("late", Scripted(order, [3, 2, 3, 2])), ("strange", Scripted([0, 4, 1, 2]))]
     if text_of(replays_of(instance, wrong)).splitlines()[3:5] != ["row 1 late unfit 2 3", "row 2 strange unfit 1 2"]:
         return "an answer that is no order is told otherwise"
+    told = "sincronia replay 1\ntotal 12\narrivals 0\nrow 1 late unfit 2 3\nend\n"
+    if record_told(instance, "late", Scripted(order, [3, 2, 3, 2])) != (1, told, ""):
+        return "the record of a ranker whose answer is no order is another"
     ranker = Scripted(order, order)
     if cost_of(facts_of(instance), runs_of(instance, ranker)) != 3 + 1 + 7 + 1:
         return "the order is served otherwise"
@@ -217,8 +263,10 @@ def limit_fault(folder, built, instance, told):
 REFUSED = [
     *([], ["trace", "trace"], [""], ["-"], ["-x"], ["--", "trace", "--unit"]),
     *(["trace", option, value] for option, most in (("--unit", 2**20), ("--epoch", 2**40), ("--slot-ms", 2**20), ("--agents", 64)) for value in ("0", str(most + 1), "-1", "x", "")),
-    *(["trace", option] for option in ("--unit", "--epoch", "--slot-ms", "--weights", "--epochs=1", "--weights=", "-e")),
+    *(["trace", "--policy", value] for value in ("", "Bssi", "a1", "bssi ", "a" * 17)),
+    *(["trace", option] for option in ("--unit", "--epoch", "--slot-ms", "--weights", "--policy", "--epochs=1", "--weights=", "-e")),
     *(["trace", option + "=1", option, "1"] for option in ("--unit", "--epoch", "--slot-ms", "--weights")),
+    ["trace", "--policy=bssi", "--policy", "bssi"],
     *(["absent"], ["wrong"], ["trace", "--weights", "absent"], ["trace", "--weights", "wrong"], ["wrong", "--weights", "absent"], ["wrong", "--epoch=0"]),
 ]
 
@@ -233,11 +281,23 @@ def refused_fault(folder, words):
     return None
 
 
+# words behind the command that name no ranker of the bench, which is told before a file is looked at
+STRANGERS = [["trace", "--policy", "bss"], ["absent", "--policy=wsebfs"], ["wrong", "--weights", "absent", "--policy", "a" * 16]]
+
+
+def stranger_fault(folder, words):
+    """What is wrong with how the built program tells that there is no ranker of a name, or None."""
+    write(folder, "trace", LATER)
+    write(folder, "wrong", "1 x\n")
+    told = ran(folder, ["replay", *words])
+    return None if told == UNKNOWN else "another answer: %r" % (told,)
+
+
 def shown_faults(built):
     """What the pages show of `replay`."""
     for (_, *words), text in (command for page in PAGES for command in shown(page)):
         if words[:1] == ["replay"]:
-            wrong = told_of(instance_of(TOP, words[1:])) != (0, text, "") or (built and ran(TOP, words) != (0, text, ""))
+            wrong = told_of(*said_by(TOP, words[1:])) != (0, text, "") or (built and ran(TOP, words) != (0, text, ""))
             yield " ".join(words), "a page shows another text" if wrong else None
 
 
@@ -250,6 +310,8 @@ def faults(folder, built, count):
         yield name, limit_fault(folder, built, instance, told)
     for words in REFUSED if built else []:
         yield "words %r" % (words,), refused_fault(folder, words)
+    for words in STRANGERS if built else []:
+        yield "words %r" % (words,), stranger_fault(folder, words)
     seen = set()
     for seed in range(count):
         instance, options = drawn_here(seed, random.Random(seed))
@@ -262,7 +324,7 @@ def faults(folder, built, count):
 def main():
     words = sys.argv[1:]
     if words[:1] == ["--text"]:
-        code, text, error = told_of(instance_of("", words[1:]))
+        code, text, error = told_of(*said_by("", words[1:]))
         print(text, end="")
         print(error, end="", file=sys.stderr)
         return code

@@ -1,15 +1,17 @@
-"""A plain program of replays, for `plain_replay.py`: the rankers, how each serves a trace as it arrives, the total that is certified for all schedules, and the text, by the definitions one by one."""
+"""A plain program of replays, for `plain_replay.py`: the rankers, how each serves a trace as it arrives, the total that is certified for all schedules, and the texts, by the definitions one by one."""
 import argparse
 import os
 from collections import namedtuple
 from fractions import Fraction
 
-from online_runs import Instance, Release, append, facts_of, ports_of, total_of
+import online_runs
+from online_runs import Epoch, Instance, Online, Release, append, facts_of, ports_of, published, total_of
 from plain_compare import ROOM, Learning, bottlenecks, by_key, read_trace
 from plain_plan import ONE, certificate, completions, grants, load
 
 ORDERS = 8192  # the most that a run may publish
 LIMIT = (7, "", "sincronia: limit: epochs %d\n" % (ORDERS + 1))
+UNKNOWN = (13, "", "sincronia: policy: no ranker of this name\n")
 QUARTERS = [0, 2, 3, 4, 6, 8]  # the thresholds, in quarters of a load; that of `online` is 4
 
 # Rankers
@@ -69,8 +71,15 @@ def tell(ranker, news, ends):
         ranker.note(coflow, ends[coflow])
 
 
-def runs_of(instance, ranker):
-    """The runs of equal slots: at each time the first thing that is to be done."""
+def told_epoch(facts, time, present, left, line):
+    """What is told of an order: its coflows that are present, each with what the certificate of what is left charges for it, and the bound of this certificate."""
+    _, places, bound = published(facts, sorted(present), left)
+    charges = {place.ident: place for place in places}
+    return Epoch(time, [charges[facts.idents[c]] for c in line], bound)
+
+
+def runs_of(instance, ranker, epochs=None):
+    """The runs of equal slots: at each time the first thing that is to be done. The orders are put into `epochs`, where it is a list."""
     facts, every = facts_of(instance), instance.every
     coflows = range(len(facts.times))
     left, runs, line = [flow.units for flow in facts.flows], [], []
@@ -99,6 +108,8 @@ def runs_of(instance, ranker):
             answer = ranker.rank(Told(facts.ports, owed, facts.weights, instance.milliseconds))
             require_order(answer, len(coflows), asked)
             line = [c for c in answer if c in present]
+            if epochs is not None:
+                epochs.append(told_epoch(facts, time, present, left, line))
         elif present & owing:
             granted = grants(facts.flows, line, left)
             stops = [time - time % every + every] + [facts.times[c] for c in waiting]
@@ -162,7 +173,7 @@ def replays_of(instance, rankers=None):
     totals = [total_of(facts, certified(facts, quarters)) for quarters in QUARTERS]
     sending = {flow.coflow for flow in facts.flows}
     arrivals = sum(facts.weights[c] * facts.times[c] for c in sending)
-    return Replays(totals, arrivals, [row_of(instance, *it) for it in rankers or bench()])
+    return Replays(totals, arrivals, [row_of(instance, *it) for it in (bench() if rankers is None else rankers)])
 
 
 def text_of(replays):
@@ -172,19 +183,41 @@ def text_of(replays):
     return "\n".join(lines + ["end", ""])
 
 
-def told_of(instance):
-    """The exit code, the standard output and the standard error of the program."""
+def record_of(instance, ranker):
+    """The record of the replay of a ranker, in the form of an online run, with the first of the released certificates that has the greatest total."""
+    facts, epochs = facts_of(instance), []
+    runs = runs_of(instance, ranker, epochs)
+    release = max((certified(facts, quarters) for quarters in QUARTERS), key=lambda places: total_of(facts, places))
+    ends = completions(facts.flows, len(facts.weights), runs)
+    return Online(epochs, list(zip(facts.idents, ends)), cost_of(facts, runs), release, total_of(facts, release), runs)
+
+
+def record_told(instance, name, ranker):
+    """The exit code and the text of the record: where an answer is no order, the text of the replay of this ranker alone."""
     try:
-        return 0, text_of(replays_of(instance)), ""
+        return 0, online_runs.text_of(record_of(instance, ranker)), ""
+    except Unfit as unfit:
+        replays = replays_of(instance, [])._replace(rows=[Row(name, None, None, unfit.args)])
+        return 1, text_of(replays), ""
+
+
+def told_of(instance, policy=None):
+    """The exit code, the standard output and the standard error of the program, where it replays all rankers, or records that of this name."""
+    try:
+        if policy is None:
+            return 0, text_of(replays_of(instance)), ""
+        named = dict(bench())
+        return record_told(instance, policy, named[policy]) if policy in named else UNKNOWN
     except TooMany:
         return LIMIT
 
 
-def instance_of(folder, words):
-    """What the words behind `replay` say, of files without faults in the folder."""
+def said_by(folder, words):
+    """The instance and the policy, or None, that the words behind `replay` say, of files without faults in the folder."""
     parser = argparse.ArgumentParser(prog="plain_replay.py --text", allow_abbrev=False)
     parser.add_argument("trace")
     parser.add_argument("--weights")
+    parser.add_argument("--policy")
     for name, value in (("--unit", 1), ("--epoch", 1024), ("--slot-ms", 8)):
         parser.add_argument(name, type=int, default=value)
     said = parser.parse_args(words)
@@ -194,4 +227,4 @@ def instance_of(folder, words):
         with open(os.path.join(folder, said.weights), encoding="ascii") as file:
             weights = dict(map(int, line.split()) for line in file if line.split())
         coflows = [coflow._replace(weight=weights.get(coflow.ident, 1)) for coflow in coflows]
-    return Instance(ports, coflows, milliseconds, said.unit, said.slot_ms, said.epoch)
+    return Instance(ports, coflows, milliseconds, said.unit, said.slot_ms, said.epoch), said.policy
