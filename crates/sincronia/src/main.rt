@@ -102,10 +102,7 @@ fn with_wires<R: Threads + Wait + Sync, H: Shelf, K: Sink>(
 /// Whether the words are a command line that asks for `replay`.
 fn ask_for_replay(alloc: Global, words: &[String]) -> Result<bool, NoMemory> {
     match read_words(alloc, words) {
-        Ok(words) => Ok(matches!(
-            words.job,
-            Job::Replay { .. } | Job::Record { .. }
-        )),
+        Ok(words) => Ok(matches!(words.job, Job::Replay { .. } | Job::Record { .. })),
         Err(WordsFault::Usage) => Ok(false),
         Err(WordsFault::NoMemory) => Err(NoMemory),
     }
