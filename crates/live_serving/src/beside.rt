@@ -9,11 +9,12 @@ ghost use Rattle.live_serving.specs.Openings.{AreServed, GoesOn, IsOpening};
 ghost use Rattle.live_serving.specs.Playing.{HasPlayed};
 
 use crate::opening::open_once;
+use crate::stage::Stage;
 use crate::stop::Stop;
 use client_session::{Hall, Session};
 use live_rounds::{Gate, PullDone, RoundStop, round};
 use outside::Wire;
-use slot_runner::{Crew, Site};
+use slot_runner::Crew;
 use std::alloc::Global;
 use std::sync::Wait;
 use std::thread::{Threads, join_mut};
@@ -25,73 +26,69 @@ pub(crate) type Came = (Result<Vec<PullDone>, RoundStop>, Result<bool, Stop>);
 
 /// The clients carry out the lines of the round, beside a run of slots where the round asks for one.
 pub(crate) fn advance<R: Threads + Wait + Sync, W: Wire + Send, G: Gate + Send>(
-    alloc: Global,
     rt: &R,
-    hall: &Hall,
-    site: &Site<W>,
+    stage: &Stage<'_, W>,
     round: &Round,
-    most: u64,
     crew: &mut Crew<W>,
     sessions: &mut [Session],
     gates: &mut [G],
 ) -> Came
-    requires may { MayDrive hall.now most crew.old.runner }
-    requires most { 1 ≤ most }
-    requires site { IsAt site.now crew.old }
-    requires wires { hall.now.setting.opening.table.ports ≤ length crew.old.wires }
-    requires own { All (IsSessionOf hall.now) sessions.old }
+    requires may { MayDrive stage.now.hall.now stage.now.most crew.old.runner }
+    requires most { 1 ≤ stage.now.most }
+    requires site { IsAt stage.now.site.now crew.old }
+    requires wires { stage.now.hall.now.setting.opening.table.ports ≤ length crew.old.wires }
+    requires own { All (IsSessionOf stage.now.hall.now) sessions.old }
     requires gates { length gates.old ≡ length sessions.old }
-    requires lines { All (MayAsk hall.now.setting.opening (length sessions.old)) round.now.lines }
-    ensures clients { HasPlayed hall.now round.now.lines sessions.old sessions.new result.0 }
-    ensures driver { GoesOn hall.now most round.now.runs crew.old.runner crew.new.runner result.1 }
-    ensures wires { AreServed W.faults W.runs hall.now crew.old.runner crew.new.runner crew.old.wires crew.new.wires
-        result.1 }
+    requires lines { All (MayAsk stage.now.hall.now.setting.opening (length sessions.old)) round.now.lines }
+    ensures clients { HasPlayed stage.now.hall.now round.now.lines sessions.old sessions.new result.0 }
+    ensures driver { GoesOn stage.now.hall.now stage.now.most round.now.runs crew.old.runner crew.new.runner result.1 }
+    ensures wires { AreServed W.faults W.runs stage.now.hall.now crew.old.runner crew.new.runner crew.old.wires
+        crew.new.wires result.1 }
     ensures stays { (crew.new.at ≡ crew.old.at) × (crew.new.places ≡ crew.old.places) }
 {
     if round.runs {
-        return both(
-            alloc,
-            rt,
-            hall,
-            site,
-            round.lines.as_slice(),
-            most,
-            crew,
-            sessions,
-            gates,
-        );
+        return both(rt, stage, round.lines.as_slice(), crew, sessions, gates);
     }
-    (
-        play(alloc, rt, hall, round.lines.as_slice(), sessions, gates),
-        Ok(false),
-    )
+    let told = play(
+        stage.alloc,
+        rt,
+        stage.hall,
+        round.lines.as_slice(),
+        sessions,
+        gates,
+    );
+    (told, Ok(false))
 }
 
 // The clients carry out the lines beside a run of slots.
 fn both<R: Threads + Wait + Sync, W: Wire + Send, G: Gate + Send>(
-    alloc: Global,
     rt: &R,
-    hall: &Hall,
-    site: &Site<W>,
+    stage: &Stage<'_, W>,
     lines: &[ScriptLine],
-    most: u64,
     crew: &mut Crew<W>,
     sessions: &mut [Session],
     gates: &mut [G],
 ) -> Came
-    requires may { MayDrive hall.now most crew.old.runner }
-    requires most { 1 ≤ most }
-    requires site { IsAt site.now crew.old }
-    requires wires { hall.now.setting.opening.table.ports ≤ length crew.old.wires }
-    requires own { All (IsSessionOf hall.now) sessions.old }
+    requires may { MayDrive stage.now.hall.now stage.now.most crew.old.runner }
+    requires most { 1 ≤ stage.now.most }
+    requires site { IsAt stage.now.site.now crew.old }
+    requires wires { stage.now.hall.now.setting.opening.table.ports ≤ length crew.old.wires }
+    requires own { All (IsSessionOf stage.now.hall.now) sessions.old }
     requires gates { length gates.old ≡ length sessions.old }
-    requires lines { All (MayAsk hall.now.setting.opening (length sessions.old)) lines.now }
-    ensures clients { HasPlayed hall.now lines.now sessions.old sessions.new result.0 }
-    ensures driver { IsOpening hall.now most crew.old.runner crew.new.runner result.1 }
-    ensures wires { AreServed W.faults W.runs hall.now crew.old.runner crew.new.runner crew.old.wires crew.new.wires
-        result.1 }
+    requires lines { All (MayAsk stage.now.hall.now.setting.opening (length sessions.old)) lines.now }
+    ensures clients { HasPlayed stage.now.hall.now lines.now sessions.old sessions.new result.0 }
+    ensures driver { IsOpening stage.now.hall.now stage.now.most crew.old.runner crew.new.runner result.1 }
+    ensures wires { AreServed W.faults W.runs stage.now.hall.now crew.old.runner crew.new.runner crew.old.wires
+        crew.new.wires result.1 }
     ensures stays { (crew.new.at ≡ crew.old.at) × (crew.new.places ≡ crew.old.places) }
 {
+    let Stage {
+        alloc,
+        hall,
+        site,
+        most,
+        ..
+    } = *stage;
     join_mut(
         rt,
         &mut || -> Result<Vec<PullDone>, RoundStop>

@@ -11,7 +11,7 @@ use crate::stage::Stage;
 use crate::stop::Stop;
 use client_session::Session;
 use crews::{Part, help_all};
-use errands::{Helper, Tray};
+use errands::Helper;
 use live_rounds::{Gate, PullDone};
 use outside::Wire;
 use slot_runner::Crew;
@@ -41,8 +41,7 @@ pub(crate) fn serve_camp<R: Threads + Wait + Sync, W: Wire + Send, G: Gate + Sen
     if helpers.is_empty() {
         return serve_all(rt, stage, crew, sessions, pulls, gates);
     }
-    let trays = stage.site.trays.as_slice();
-    serve_beside(rt, stage, crew, sessions, pulls, gates, trays, helpers)
+    serve_beside(rt, stage, crew, sessions, pulls, gates, helpers)
 }
 
 // The crew serves the script beside the helpers, each on a thread of its own.
@@ -53,20 +52,20 @@ fn serve_beside<'a, R: Threads + Wait + Sync, W: Wire + Send, G: Gate + Send>(
     sessions: &'a mut [Session],
     pulls: &'a mut Vec<PullDone>,
     gates: &'a mut [G],
-    trays: &'a [Tray<Part<W>>],
     helpers: &'a mut [Helper<Part<W>>],
 ) -> Result<(), Stop>
     requires going { IsGoing stage.now.hall.now stage.now.script.now stage.now.most 0 crew.old.runner sessions.old
         pulls.old.items }
     requires most { 1 ≤ stage.now.most }
     requires site { IsAt stage.now.site.now crew.old }
-    requires helpers { helpers.old ≡ map (helper_at stage.now.site.now.board) trays.now }
+    requires helpers { helpers.old ≡ map (helper_at stage.now.site.now.board) stage.now.site.now.trays.items }
     requires gates { length gates.old ≡ length sessions.old }
     requires wires { stage.now.hall.now.setting.opening.table.ports ≤ length crew.old.wires }
     ensures { IsRunServed W.faults W.runs stage.now.hall.now stage.now.script.now stage.now.most crew.old crew.new
         sessions.new pulls.new.items result }
 {
     let board = &stage.site.board;
+    let trays = stage.site.trays.as_slice();
     let (_, served) = join_mut(
         rt,
         &mut || -> ()

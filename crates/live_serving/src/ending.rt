@@ -12,13 +12,12 @@ use crate::pulls::pull_lines;
 use crate::stop::Stop;
 use client_session::{CloseFault, Driver, Hall, Session};
 use coflow_units::{Items, NoMemory};
-use live_rounds::PullDone;
 use master_core::Master;
 use std::alloc::Global;
 use workload::Script;
 
-/// Closes the hall and tells the pulls, once the work is ended. Where a turn found no room the hall is closed as well: its
-/// journal would then show that there was room, so that this never comes.
+/// Closes the hall and tells the pulls, once the work is ended. Where a turn found no room the hall is closed as well:
+/// its journal would then show that there was room, so that this never comes.
 pub(crate) fn end(
     alloc: Global,
     run: Begun,
@@ -38,24 +37,9 @@ pub(crate) fn end(
     ensures fault { (port : ℕ) → result ≡ Err (fault.WireFault port) → answer ≡ Err (WireFault port) }
 {
     match answer {
-        Ok(()) => {
-            let Begun {
-                hall,
-                sessions,
-                pulls,
-            } = run;
-            let told = tell(alloc, hall, driver, sessions, &pulls, script);
-            drop(pulls);
-            told
-        }
+        Ok(()) => tell(alloc, run, driver, script),
         Err(Stop::Full) => {
-            let Begun {
-                hall,
-                sessions,
-                pulls,
-            } = run;
-            drop(pulls);
-            refuse(alloc, hall, driver, sessions, script);
+            refuse(alloc, run, driver, script);
             Err(LiveFault::NoMemory)
         }
         Err(Stop::WireFault { port }) => {
@@ -72,23 +56,22 @@ pub(crate) fn end(
 }
 
 // Closes the hall, and tells the pulls.
-fn tell(
-    alloc: Global,
-    hall: Hall,
-    driver: Driver,
-    sessions: Vec<Session>,
-    pulls: &[PullDone],
-    script: &Script,
-) -> Result<Served, LiveFault>
-    requires ended { (most : ℕ) × IsEnded hall script.now most driver sessions.items pulls.now }
-    ensures opening { IfOk result (λ s. s.master.opening ≡ hall.setting.opening) }
-    ensures told { (most : ℕ) → IfOk result (λ s. IsEnded hall script.now most driver sessions.items pulls.now →
-        IsTold hall.setting.opening script.now most s.master.journal driver.journal s.pulls) }
+fn tell(alloc: Global, run: Begun, driver: Driver, script: &Script) -> Result<Served, LiveFault>
+    requires ended { (most : ℕ) × IsEnded run.hall script.now most driver run.sessions.items run.pulls.items }
+    ensures opening { IfOk result (λ s. s.master.opening ≡ run.hall.setting.opening) }
+    ensures told { (most : ℕ) → IfOk result (λ s.
+        IsEnded run.hall script.now most driver run.sessions.items run.pulls.items →
+        IsTold run.hall.setting.opening script.now most s.master.journal driver.journal s.pulls) }
     ensures fault { (port : ℕ) → result ≡ Err (fault.WireFault port) → ⊥ }
 {
+    let Begun {
+        hall,
+        sessions,
+        pulls,
+    } = run;
     let _within = hall.coflows();
     let master = close(alloc, hall, driver, sessions)?;
-    let Ok(lines) = pull_lines(alloc, master.table(), pulls, script.clients) else {
+    let Ok(lines) = pull_lines(alloc, master.table(), pulls.as_slice(), script.clients) else {
         drop(master);
         return Err(LiveFault::NoMemory);
     };
@@ -98,10 +81,12 @@ fn tell(
     })
 }
 
-// Closes a hall in which a turn found no room. Its journal shows that there was room, so there is no memory to close it.
-fn refuse(alloc: Global, hall: Hall, driver: Driver, sessions: Vec<Session>, _script: &Script)
-    requires filled { (most : ℕ) × IsFilled hall _script.now most driver sessions.items }
+// Closes a hall in which a turn found no room. Its journal shows that there was room, so there is no memory to close
+// it.
+fn refuse(alloc: Global, run: Begun, driver: Driver, _script: &Script)
+    requires filled { (most : ℕ) × IsFilled run.hall _script.now most driver run.sessions.items }
 {
+    let Begun { hall, sessions, .. } = run;
     match close(alloc, hall, driver, sessions) {
         Ok(_master) => unreachable!(),
         Err(_no_memory) => {}

@@ -39,8 +39,8 @@ pub fn rounds_go_on()
         AreRoundsDone most calls (rounds ++ r ∷ []) new news (pulls ++ more) }
 {}
 
-/// How the work is ended after the last round: no run more at first, one more by a run that was sent whole, and none by an
-/// opening that is answered that nothing is left.
+/// How the work is ended after the last round: no run more at first, one more by a run that was sent whole, and none by
+/// an opening that is answered that nothing is left.
 pub fn drivers_run_out()
     ensures first { (most calls : ℕ) (rounds : List Round) (driver : DriverModel) (sessions : List SessionModel)
         (pulls : List PullDone) → AreRoundsDone most calls rounds driver sessions pulls →
@@ -55,8 +55,8 @@ pub fn drivers_run_out()
         HasRunOut most calls rounds new.driver sessions pulls }
 {}
 
-/// What the closed hall tells of a run that has ended its work: a course that carries out the script, with this journal,
-/// and with wires that hold what its closed runs sent; and the lines of the pulls that the rounds told.
+/// What the closed hall tells of a run that has ended its work: a course that carries out the script, with this
+/// journal, and with wires that hold what its closed runs sent; and the lines of the pulls that the rounds told.
 pub fn closed_halls_carry_out_scripts()
     ensures { (script : Script) (most calls : ℕ) (hall : HallModel) (driver : DriverModel)
         (sessions : List SessionModel) (pulls : List PullDone) (master : MasterFacts) (wires : Wires) →
@@ -67,9 +67,9 @@ pub fn closed_halls_carry_out_scripts()
         IsCarriedOut master.opening script most master.journal wires pulls }
 {}
 
-/// The journal of a closed hall has fewer entries than the limit of its script, whatever its rounds stopped for: no session
-/// has more entries than its client has lines, each run that was closed sent a unit, and no more openings found nothing
-/// left than there are rounds, and one.
+/// The journal of a closed hall has fewer entries than the limit of its script, whatever its rounds stopped for: no
+/// session has more entries than its client has lines, each run that was closed sent a unit, and no more openings found
+/// nothing left than there are rounds, and one.
 pub fn runs_have_room()
     ensures { (script : Script) (most : ℕ) (hall : HallModel) (driver : DriverModel) (sessions : List SessionModel)
         (spells : List Spell) (master : MasterFacts) → master.opening.limit ≡ limit_of master.opening script →

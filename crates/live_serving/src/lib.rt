@@ -1,5 +1,5 @@
-//! The loop of `live`: a hall whose clients carry out a script round by round, each round beside a run of slots where it
-//! asks for one, and whose driver then opens runs until nothing is left.
+//! The loop of `live`: a hall whose clients carry out a script round by round, each round beside a run of slots where
+//! it asks for one, and whose driver then opens runs until nothing is left.
 #![tactic(auto)]
 
 mod answer;

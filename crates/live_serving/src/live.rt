@@ -23,16 +23,16 @@ use std::thread::Threads;
 use workload::Script;
 
 /// Carries out a script in a hall of a new master, whose journal has room for the script's commands, twice its rounds,
-/// twice the units, and two. Each client has a session and a thread of its own, and passes its gate before each command.
-/// Round follows on round, beside a run of slots where one is asked for, and between them all callers see what one of
-/// them has seen. After the last round runs are opened until nothing is left, each run of at most so many slots. So many
-/// agents beside each other, at most one for each port, send the units on the wires, one for each ingress port, and
-/// further wires are left alone. The helpers live through all rounds and runs, and the crew has the wires meanwhile. At
-/// every answer the wires stand in the vector again, in their order.
+/// twice the units, and two. Each client has a session and a thread of its own, and passes its gate before each
+/// command. Round follows on round, beside a run of slots where one is asked for, and between them all callers see what
+/// one of them has seen. After the last round runs are opened until nothing is left, each run of at most so many slots.
+/// So many agents beside each other, at most one for each port, send the units on the wires, one for each ingress port,
+/// and further wires are left alone. The helpers live through all rounds and runs, and the crew has the wires
+/// meanwhile. At every answer the wires stand in the vector again, in their order.
 ///
-/// `WireFault` comes only where the count of that port's wire rose in this call. It is the least port at which a unit of
-/// the last run is missing, and no further run is opened after it. `NoMemory` is want of memory. At every answer what was
-/// sent are units of one schedule, none twice.
+/// `WireFault` comes only where the count of that port's wire rose in this call. It is the least port at which a unit
+/// of the last run is missing, and no further run is opened after it. `NoMemory` is want of memory. At every answer
+/// what was sent are units of one schedule, none twice.
 pub fn serve_live<R: Threads + Wait + Sync, W: Wire + Send, G: Gate + Send>(
     alloc: Global,
     rt: &R,

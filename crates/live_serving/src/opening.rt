@@ -10,9 +10,11 @@ use outside::Wire;
 use slot_runner::{Crew, Ran, Site};
 use std::sync::Wait;
 
-/// Asks once that a run of at most so many slots is opened, sends it by the agents of the crew, and closes it. The answer is whether there was a run, or else nothing is left.
+/// Asks once that a run of at most so many slots is opened, sends it by the agents of the crew, and closes it. The
+/// answer is whether there was a run, or else nothing is left.
 ///
-/// The error says why there was none, or not a whole one: the journal has no room, or the wire of a port accepted fewer units than it was sent.
+/// The error says why there was none, or not a whole one: the journal has no room, or the wire of a port accepted fewer
+/// units than it was sent.
 pub fn open_once<R: Wait, W: Wire>(
     rt: &R,
     hall: &Hall,

@@ -11,8 +11,8 @@ use live_rounds::PullDone;
 use live_text::PullLine;
 use std::alloc::Global;
 
-/// The lines of the pulls of so many clients, whose numbers count from 1: by client, and those of a client in the order in
-/// which they are given, which is that of rounds and lines.
+/// The lines of the pulls of so many clients, whose numbers count from 1: by client, and those of a client in the order
+/// in which they are given, which is that of rounds and lines.
 ///
 /// The error is want of memory.
 pub fn pull_lines(

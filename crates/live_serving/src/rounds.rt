@@ -17,9 +17,11 @@ use slot_runner::Crew;
 use std::sync::Wait;
 use std::thread::Threads;
 
-/// Plays one round of the script, of which so many are done, and lets all callers see what one of them has seen. The pulls of the round go behind those before.
+/// Plays one round of the script, of which so many are done, and lets all callers see what one of them has seen. The
+/// pulls of the round go behind those before.
 ///
-/// The error says why it went no further: a turn found no room in the journal, the wire of a port accepted fewer units than it was sent, or no memory was to be had.
+/// The error says why it went no further: a turn found no room in the journal, the wire of a port accepted fewer units
+/// than it was sent, or no memory was to be had.
 pub(crate) fn play_round<R: Threads + Wait + Sync, W: Wire + Send, G: Gate + Send>(
     rt: &R,
     stage: &Stage<'_, W>,
@@ -44,17 +46,10 @@ pub(crate) fn play_round<R: Threads + Wait + Sync, W: Wire + Send, G: Gate + Sen
         crew.new.wires result }
     ensures stays { (crew.new.at ≡ crew.old.at) × (crew.new.places ≡ crew.old.places) }
 {
-    let Stage {
-        alloc,
-        hall,
-        site,
-        script,
-        most,
-    } = *stage;
-    let round = &script.rounds.as_slice()[done];
-    let came = advance(alloc, rt, hall, site, round, most, crew, sessions, gates);
+    let round = &stage.script.rounds.as_slice()[done];
+    let came = advance(rt, stage, round, crew, sessions, gates);
     let more = pulls_of(came)?;
-    hall.level(crew.driver(), sessions);
+    stage.hall.level(crew.driver(), sessions);
     pulls.extend_from_slice(&more)?;
     Ok(())
 }

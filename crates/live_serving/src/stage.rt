@@ -5,7 +5,8 @@ use slot_runner::Site;
 use std::alloc::Global;
 use workload::Script;
 
-/// What a run of `live` goes by: its hall, the site where its crew works, its script, and the most slots that each run of slots may have.
+/// What a run of `live` goes by: its hall, the site where its crew works, its script, and the most slots that each run
+/// of slots may have.
 #[derive(Drop)]
 pub(crate) struct Stage<'a, W: Wire> {
     pub(crate) alloc: Global,
