@@ -1,5 +1,5 @@
 -- Members of lists, and the lists of the numbers from one on.
-use Rattle.std.proofs.Common.{Bool, Contains, List, [], ap, arith, cond, false, inl, inr, length, refl}
+use Rattle.std.proofs.Common.{Bool, Contains, List, [], ap, arith, cond, false, inl, inr, length, map, refl}
 use Rattle.std.proofs.Common.{reverse, subst, suc, sym, take, true, true≢false, zero, ℕ, ◌++◌, ◌+◌, ◌-◌, ◌<◌}
 use Rattle.std.proofs.Common.{◌∙◌, ◌∷◌, ◌≡◌, ◌≤◌}
 use Rattle.std.proofs.lemmas.Bool.{both_ways, cases_Bool, or_cases}
@@ -10,6 +10,19 @@ use Rattle.std.proofs.lemmas.List.Sums.{sum_by-cons, sum_by_more, sum_by_push}
 use Rattle.std.specs.List.{filter, list_any, range_with_len, slice_index_or}
 use Rattle.std.specs.Prelude.{if◌then◌else◌, sum_by}
 use Rattle.coflow_units.proofs.Sums.{Apart, first_or_tail, in_first, in_tail, nothing_in}
+
+-- functions that agree on the members make the same list
+pub map_same : {X : Type 0} (f g : ℕ → X) (xs : List ℕ) → ((x : ℕ) → Contains xs x → f x ≡ g x) → map f xs ≡ map g xs
+map_same f g [] same = refl
+map_same f g (x ∷ xs) same = ap (λ y. y ∷ map f xs) (same x (in_first x xs)) ∙ ap (λ l. g x ∷ l) (map_same f g xs (λ y has. same y (in_tail x xs y has)))
+
+-- a member of a list that is made of another comes from a member there
+pub from_map : {X Y : Type 0} (w : X → Y) (xs : List X) (y : Y) → Contains (map w xs) y → (x : X) × Contains xs x × (w x ≡ y)
+from_map w [] y has = absurd (nothing_in y has)
+from_map w (x ∷ xs) y has = elim (first_or_tail (w x) (map w xs) y has) [
+  | inl e ↦ (x, in_first x xs, e)
+  | inr later ↦ let (found, inside, e) = from_map w xs y later in (found, in_tail x xs found inside, e)
+]
 
 -- an element that passes the test
 pub any_where : (w : ℕ → Bool) (xs : List ℕ) → list_any w xs ≡ true → (x : ℕ) × Contains xs x × (w x ≡ true)

@@ -1,11 +1,12 @@
 -- A served schedule is the only one.
-use Rattle.std.proofs.Common.{◌≡◌, ℕ, ◌+◌, ◌≤◌, ◌<◌, ◌⊎◌, inl, inr, List, [], ◌∷◌, ◌++◌, length, take, refl, sym, ap, subst, ◌∙◌, arith, zero, suc}
+use Rattle.std.proofs.Common.{◌≡◌, ℕ, ◌+◌, ◌≤◌, ◌<◌, inl, inr, List, [], ◌∷◌, ◌++◌, length, take, refl, sym, ap, subst, ◌∙◌, arith, zero, suc}
 use Rattle.std.specs.List.{slice_index_or}
 use Rattle.std.proofs.lemmas.List.{take_more, take_all}
 use Rattle.coflow_units.specs.declared.fabric.Flow.{Flow}
 use Rattle.coflow_units.specs.Grants.{IsGrants}
 use Rattle.coflow_units.specs.Served.{IsServed, IsServedSoFar, left_after}
 use Rattle.coflow_units.proofs.GrantLaws.{one_grants}
+use Rattle.coflow_units.proofs.Numbers.{compare}
 
 -- two schedules that serve one line so far are the same as far as both go
 pub same_front : (flows : List Flow) (line : List ℕ) (a b : List (List ℕ)) → IsServedSoFar flows line a → IsServedSoFar flows line b → (t : ℕ) → t ≤ length a → t ≤ length b →
@@ -27,9 +28,6 @@ not_longer flows line a b sa sb lt =
     let owed = sb.so_far.owed (length a) lt in
     let none : left_after flows (take (length a) b) owed.0 ≡ 0 = subst (λ x. left_after flows x owed.0 ≡ 0) front (sa.ended owed.0 owed.1) in
     omega (arith, none, owed.2)
-
-compare : (m n : ℕ) → (m < n) ⊎ ((m ≡ n) ⊎ (n < m))
-compare m n = grind arith
 
 pub one_served : (flows : List Flow) (line : List ℕ) (a b : List (List ℕ)) → IsServed flows line a → IsServed flows line b → a ≡ b
 one_served flows line a b sa sb = elim (compare (length a) (length b)) [

@@ -10,6 +10,7 @@ use Rattle.coflow_units.specs.declared.fabric.Side.TheVariants.{Ingress, Egress}
 use Rattle.coflow_units.specs.Flows.{coflow_of}
 use Rattle.coflow_units.specs.Load.{load, loads}
 use Rattle.coflow_units.specs.Starts.{IsStarts}
+use Rattle.coflow_units.proofs.Bools.{part}
 use Rattle.coflow_units.proofs.Sums.{sum_mono}
 use Rattle.coflow_units.proofs.WhatIsLeft.{same_length}
 use Rattle.port_load.specs.declared.filling.Pending.{Pending}
@@ -175,10 +176,6 @@ pub total_at_most : (t : LoadTable) (flows : List Flow) (left : List ℕ) → Ha
 total_at_most t flows left most same port lp =
     omega (arith, total_within (flows_left left flows) t port lp (λ c lc. most c port lc lp), all_units flows left same)
 
-at_most_all : (b : Bool) (u : ℕ) → (if b then u else 0) ≤ u
-at_most_all true u = omega arith
-at_most_all false u = omega arith
-
 pub one_at_most : (left : List ℕ) (k : ℕ) → k < length left → slice_index left k ≤ sum left
 one_at_most left k lt = get_or-le-sum_by (λ n. n) left k 0 lt
 
@@ -206,7 +203,7 @@ pending_at_most old new flows left coflow p k so_far same = elim (cases_lt 0 p.u
         here,
         test_both coflow coflow p.ingress p.ingress p.units refl refl,
         sum_by-take-le f (flows_left left flows) k,
-        sum_mono f (λ (x : Flow). x.units) (flows_left left flows) (λ x has. at_most_all (loads coflow (port_of Ingress p.ingress) x) x.units),
+        sum_mono f (λ (x : Flow). x.units) (flows_left left flows) (λ x has. part (loads coflow (port_of Ingress p.ingress) x) x.units),
         all_units flows left same,
       )
   | inr none ↦ omega (arith, none)

@@ -3,6 +3,7 @@ use Rattle.std.proofs.Common.{◌≡◌, ℕ, ◌+◌, ◌≤◌, ◌<◌, ◌�
 use Rattle.std.specs.List.Sorted.{IsStrictlyIncreasing}
 use Rattle.std.proofs.lemmas.Bool.{cases_lt}
 use Rattle.std.proofs.lemmas.Bool.Decides.{nat_tests}
+use Rattle.coflow_units.proofs.Numbers.{compare}
 use Rattle.run_list.specs.Kept.{toggled_from, toggled}
 
 -- the numbers ascend strictly, and none is below the bound
@@ -27,17 +28,10 @@ from_past : (x : ℕ) (rest : List ℕ → List ℕ) (ys : List ℕ) → Rises (
 from_past x rest [] up = refl
 from_past x rest (y ∷ ys) up = from_below x y rest ys (omega arith)
 
--- what two numbers are to one another
-order : (x y : ℕ) → (x < y) ⊎ ((x ≡ y) ⊎ (y < x))
-order x y = elim (cases_lt x y) [
-  | inl lt ↦ inl lt
-  | inr le ↦ elim (cases_lt y x) [ inl lt ↦ inr (inr lt) | inr also ↦ inr (inl (omega arith)) ]
-]
-
 from_rises : (x : ℕ) (rest : List ℕ → List ℕ) → ((ys : List ℕ) → Rises (x + 1) ys → Rises (x + 1) (rest ys)) →
     (low : ℕ) (ys : List ℕ) → low ≤ x → Rises low ys → Rises low (toggled_from x rest ys)
 from_rises x rest on low [] le up = (le, on [] tt)
-from_rises x rest on low (y ∷ ys) le up = elim (order x y) [
+from_rises x rest on low (y ∷ ys) le up = elim (compare x y) [
   | inl lt ↦ subst (Rises low) (sym (from_below x y rest ys lt)) (le, on (y ∷ ys) (omega arith, up.1))
   | inr (inl e) ↦
       let more : Rises (x + 1) ys = subst (λ (n : ℕ). Rises (n + 1) ys) (sym e) up.1 in
@@ -54,7 +48,7 @@ from_twice : (x : ℕ) (rest : List ℕ → List ℕ) → ((ys : List ℕ) → R
     ((ys : List ℕ) → Rises (x + 1) ys → rest (rest ys) ≡ ys) →
     (low : ℕ) (ys : List ℕ) → low ≤ x → Rises low ys → toggled_from x rest (toggled_from x rest ys) ≡ ys
 from_twice x rest on back low [] le up = from_same x x rest (rest []) refl ∙ back [] tt
-from_twice x rest on back low (y ∷ ys) le up = elim (order x y) [
+from_twice x rest on back low (y ∷ ys) le up = elim (compare x y) [
   | inl lt ↦ ap (toggled_from x rest) (from_below x y rest ys lt) ∙ from_same x x rest (rest (y ∷ ys)) refl ∙ back (y ∷ ys) (omega arith, up.1)
   | inr (inl e) ↦
       let more : Rises (x + 1) ys = subst (λ (n : ℕ). Rises (n + 1) ys) (sym e) up.1 in

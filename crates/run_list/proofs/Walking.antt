@@ -11,6 +11,10 @@ use Rattle.run_list.specs.Runs.{flows_before, run_of}
 use Rattle.run_list.proofs.Keeping.{length-runs_of}
 use Rattle.run_list.proofs.Turning.{without-ascends}
 
+-- a run with its slots and its flows is that run
+pub run_is : (slots : ℕ) (flows : List ℕ) (r : Run) → slots ≡ r.length → flows ≡ r.flows → run_of slots flows ≡ r
+run_is slots flows r e f = ap (λ n. run_of n flows) e ∙ ap (run_of r.length) f
+
 -- the runs that are left, where the next one is entered
 next_runs : (marks : List Mark) (numbers : List ℕ) (entered read : ℕ) (flows : List ℕ) (mark : Mark) (run : Run) →
     IsWalking marks numbers entered read flows → entered < length marks →

@@ -38,7 +38,7 @@ last_run_yes p xs x zero e = last_push p xs x ∙ ap {B = ℕ} (λ b. if b then 
 last_run_yes p xs x (suc n) e =
     ap (last_where p) (run_step xs x (suc n)) ∙ last_run_yes p (xs ++ x ∷ []) x n e ∙ omega (arith, length-append xs (x ∷ []))
 
-last_run_step : {X : Type 0} (p : X → Bool) (xs : List X) (x : X) (n : ℕ) (b : Bool) → p x ≡ b → 1 ≤ n →
+pub last_run_step : {X : Type 0} (p : X → Bool) (xs : List X) (x : X) (n : ℕ) (b : Bool) → p x ≡ b → 1 ≤ n →
     last_where p (xs ++ replicate n x) ≡ cond b (length xs + n) (last_where p xs)
 last_run_step p xs x zero b e some = absurd (omega arith)
 last_run_step p xs x (suc n) true e some = last_run_yes p xs x n e

@@ -6,6 +6,7 @@ use Rattle.std.proofs.lemmas.List.Elements.{All-append, All-replicate}
 use Rattle.coflow_units.specs.declared.plan.Run.{Run}
 use Rattle.coflow_units.specs.Schedule.{slots_of}
 use Rattle.run_list.specs.Runs.{Walked, run_of}
+use Rattle.run_list.proofs.Walking.{run_is}
 use Rattle.schedule_model.specs.RunList.{IsKept, pairs_of, slots_in}
 
 -- one run more
@@ -89,9 +90,6 @@ pub all_runs : (runs : List Run) (k : ℕ) → length runs ≤ k → slots_in (t
 all_runs runs k le = ap slots_in (take_all k runs le)
 
 -- the run that a walk is in
-run_is : (slots : ℕ) (flows : List ℕ) (r : Run) → slots ≡ r.length → flows ≡ r.flows → run_of slots flows ≡ r
-run_is slots flows r e f = ap (λ n. run_of n flows) e ∙ ap (run_of r.length) f
-
 pub entered_slots : (runs : List Run) (k slots : ℕ) (walk : Walked) (r : Run) → walk.runs ≡ runs → walk.entered ≡ k →
     ((d : Run) → slots ≡ (get_or walk.runs walk.entered d).length) → slots ≡ (get_or runs k r).length
 entered_slots runs k slots walk r same place has =
