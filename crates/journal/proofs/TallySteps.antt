@@ -6,7 +6,8 @@ use Rattle.std.proofs.lemmas.Bool.{cases_eq, eq-eqb, ne_eqb}
 use Rattle.std.proofs.lemmas.List.{map-append}
 use Rattle.coflow_units.specs.declared.fabric.Flow.{Flow}
 use Rattle.coflow_units.specs.Flows.{ingress_of}
-use Rattle.coflow_units.proofs.Sums.{any_in, in_first, in_tail}
+pub use Rattle.coflow_units.proofs.Lists.{map_same}
+use Rattle.coflow_units.proofs.Sums.{any_in}
 use Rattle.journal.specs.declared.command.Command.{Command}
 use Rattle.journal.specs.declared.command.Entry.{Entry}
 use Rattle.journal.specs.declared.command.Reply.{Reply}
@@ -30,10 +31,6 @@ tallied flows granted k (Opened first slots count) x =
 tallied flows granted k (Noted n) x = record x { current = with_note x.current (port_named k) n }
 tallied flows granted k (Closed slot) x = record { closed = x.closed ++ option_to_list x.current; current = None }
 tallied flows granted k reply x = x
-
-pub map_same : {X : Type 0} (f g : ℕ → X) (xs : List ℕ) → ((x : ℕ) → Contains xs x → f x ≡ g x) → map f xs ≡ map g xs
-map_same f g [] same = refl
-map_same f g (x ∷ xs) same = ap (λ y. y ∷ map f xs) (same x (in_first x xs)) ∙ ap (λ l. g x ∷ l) (map_same f g xs (λ y has. same y (in_tail x xs y has)))
 
 map_twice : {X Y : Type 0} (g : X → Y) (f : ℕ → X) (xs : List ℕ) → map g (map f xs) ≡ map (λ x. g (f x)) xs
 map_twice g f [] = refl
