@@ -7,6 +7,7 @@ use Rattle.std.proofs.lemmas.List.{map-append, take-append-drop}
 use Rattle.outside.specs.Sink.{TakesText}
 use Rattle.outside.specs.declared.sink.Failed.{Failed}
 use Rattle.run_list.specs.Runs.{run_of}
+use Rattle.run_list.proofs.Walking.{run_is}
 use Rattle.coflow_units.specs.declared.plan.Run.{Run}
 use Rattle.coflow_units.specs.Text.{ended, text_of}
 use Rattle.report_text.specs.Puts.{Puts}
@@ -17,9 +18,6 @@ use Rattle.report_text.proofs.TextSteps.{each_step}
 -- the text of the lines of some runs
 abbrev pub lines_text : List Run → List ℕ
 lines_text runs = text_of (map run_line runs)
-
-run_is : (slots : ℕ) (flows : List ℕ) (x : Run) → slots ≡ x.length → flows ≡ x.flows → run_of slots flows ≡ x
-run_is slots flows x a b = ap (λ s. run_of s flows) a ∙ ap (λ f. run_of x.length f) b
 
 -- what a walk tells of the run that it enters
 pub run_here : (runs old new : List Run) (k entered after slots : ℕ) (flows : List ℕ) → old ≡ runs → entered ≡ k → new ≡ old → after ≡ entered + 1 →
