@@ -12,7 +12,7 @@ ghost use Rattle.master_core.specs.Published.{TellsPlaces, ranked};
 ghost use Rattle.rank_board.specs.Models.{saw_front, SeatModel};
 ghost use Rattle.std.specs.Prelude.{◌≡◌, ℕ, ◌≤◌, false, true, length, [], All, Ok, Err, vec_capacity};
 
-use crate::granted::Granted;
+use crate::granted::{Granted, write_over};
 use crate::receipt::Receipt;
 use coflow_units::Place;
 use journal::{Command, Entry, Opening, Reply};
@@ -106,7 +106,7 @@ impl Desk {
         ensures places { TellsPlaces (state_of self.now.setting.opening self.now.journal).published places.new.items }
         ensures room { vec_capacity places.new ≡ vec_capacity places.old }
     {
-        copy_places(self.master.places(), places);
+        write_over(self.master.places(), places);
     }
 
     /// The master, once the hall is closed.
@@ -211,18 +211,6 @@ impl Desk {
         ensures pulls { All (IsRanked self.old.setting.opening self.old.journal) seat.new.pulls }
     {
         board.meet(&mut self.publisher, seat);
-    }
-}
-
-// Makes the list the same as these places, for which it has room.
-fn copy_places(from: &[Place], to: &mut Vec<Place>)
-    requires room { length from.now ≤ vec_capacity to.old }
-    ensures places { to.new.items ≡ from.now }
-    ensures room { vec_capacity to.new ≡ vec_capacity to.old }
-{
-    to.clear();
-    for place in from {
-        to.push_reserved(*place);
     }
 }
 

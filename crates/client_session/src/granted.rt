@@ -121,17 +121,18 @@ fn copy_numbers(from: &[u32], to: &mut Vec<u32>)
     };
 }
 
-// The same, with no more room than before. What the list had is written over.
-fn write_over(from: &[u32], to: &mut Vec<u32>)
+/// Makes the list the same as these elements, for which it has room, with no more room than before. What the list had is
+/// written over.
+pub(crate) fn write_over<T: Copy>(from: &[T], to: &mut Vec<T>)
     requires room { length from.now ≤ vec_capacity to.old }
-    ensures numbers { to.new.items ≡ from.now }
+    ensures elements { to.new.items ≡ from.now }
     ensures room { vec_capacity to.new ≡ vec_capacity to.old }
 {
     let over = from.len().min(to.len());
     to.truncate(over);
     to.copy_from_slice(&from[..over]);
-    for number in &from[over..] {
-        to.push_reserved(*number);
+    for element in &from[over..] {
+        to.push_reserved(*element);
     }
 }
 
