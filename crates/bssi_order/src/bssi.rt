@@ -13,8 +13,9 @@ use port_load::Loads;
 use std::alloc::Global;
 use std::marker::Model;
 
-/// Orders coflows by bottleneck, select, scale, iterate (Agarwal, Rajakrishnan, Narayan, Agarwal, Shmoys and Vahdat, "Sincronia: near-optimal network
-/// design for coflows", SIGCOMM 2018), with budgets in parts of 2^40 of a weight of 1. It holds the room that a run needs, and the places of the last run.
+/// Orders coflows by bottleneck, select, scale, iterate (Agarwal, Rajakrishnan, Narayan, Agarwal, Shmoys and Vahdat,
+/// "Sincronia: near-optimal network design for coflows", SIGCOMM 2018), with budgets in parts of 2^40 of a weight of 1.
+/// It holds the room that a run needs, and the places of the last run.
 ///
 /// Contracts see a `Bssi` as the number of coflows that it has room for, and its places.
 #[derive(Drop)]
@@ -38,7 +39,8 @@ impl Model for Bssi {
 }
 
 impl Bssi {
-    /// Takes the room for runs over up to `coflows` coflows. What a run needs does not grow with the number of ports. The error is want of memory.
+    /// Takes the room for runs over up to `coflows` coflows. What a run needs does not grow with the number of ports.
+    /// The error is want of memory.
     pub fn with_room(alloc: Global, coflows: u32, _ports: u32) -> Result<Bssi, NoMemory>
         ensures room { IfOk result (λ b. b.room ≡ coflows) }
         ensures none { IfOk result (λ b. b.places ≡ []) }
@@ -64,7 +66,8 @@ impl Bssi {
         })
     }
 
-    /// Orders the coflows that are present, with one weight and one mark for each coflow of the loads. The loads are used up: what they hold afterwards is not told.
+    /// Orders the coflows that are present, with one weight and one mark for each coflow of the loads. The loads are
+    /// used up: what they hold afterwards is not told.
     pub fn run(&mut self, loads: &mut Loads, weights: &[u64], present: &[bool])
         requires room { loads.old.coflows ≤ self.old.room }
         requires weights_len { length weights.now ≡ loads.old.coflows }
@@ -158,7 +161,8 @@ fn drop_absent(loads: &mut Loads, present: &[bool])
     }
 }
 
-/// Sets each residual to the coflow's budget: its weight, at most 2^32, times 2^40. There are as many residuals as weights.
+/// Sets each residual to the coflow's budget: its weight, at most 2^32, times 2^40. There are as many residuals as
+/// weights.
 pub fn give_budgets(residuals: &mut [u128], weights: &[u64])
     requires len { length residuals.old ≡ length weights.now }
     requires weights_fit { All (λ w. w ≤ MAX_WEIGHT) weights.now }

@@ -10,9 +10,10 @@ use port_load::Loads;
 /// How many blocks of 64 ports a side has at most.
 pub(crate) const BLOCKS: usize = 17;
 
-/// The first port with the greatest load. Each block of 64 ports of a side has a bound above which none of its totals is. A block whose bound is not above what was
-/// found before it is passed by, and each other one is looked at, and has the greatest of its totals as its bound afterwards. So few blocks are looked at where the
-/// loads fell little since the last time.
+/// The first port with the greatest load. Each block of 64 ports of a side has a bound above which none of its totals
+/// is. A block whose bound is not above what was found before it is passed by, and each other one is looked at, and has
+/// the greatest of its totals as its bound afterwards. So few blocks are looked at where the loads fell little since
+/// the last time.
 pub(crate) fn greatest_port(loads: &Loads, ingress: &mut [u64], egress: &mut [u64]) -> Port
     requires ingress_len { length ingress.old ≡ BLOCKS }
     requires egress_len { length egress.old ≡ BLOCKS }

@@ -1,4 +1,5 @@
-//! The steps of the order: the port with the greatest load, the coflow whose budget is used up first there, and what each coflow pays.
+//! The steps of the order: the port with the greatest load, the coflow whose budget is used up first there, and what
+//! each coflow pays.
 ghost use Rattle.std.specs.Prelude.{◌≡◌, ◌≢◌, ℕ, ◌+◌, ◌-◌, ◌*◌, ◌/◌, ◌^◌, ◌<◌, ◌≤◌, ◌⊎◌, true, false, List, [], Contains, count_by, length, slice_index, slice_set};
 ghost use Rattle.coflow_units.specs.declared.limits.TheConstants.{MAX_COFLOWS, MAX_UNITS};
 ghost use Rattle.coflow_units.specs.declared.fabric.Port.{Port};
@@ -32,7 +33,8 @@ pub fn place_all(
     }
 }
 
-/// The place before those that are there. Each coflow pays for it, and the one placed goes. The bounds are those of the loads of the two sides.
+/// The place before those that are there. Each coflow pays for it, and the one placed goes. The bounds are those of the
+/// loads of the two sides.
 fn next_place(
     loads: &mut Loads,
     residuals: &mut [u128],
@@ -61,9 +63,10 @@ fn next_place(
     place
 }
 
-/// The place that comes before those that are there: the first port with the greatest load, and there the coflow whose residual is used up first, with what it pays
-/// for each unit of load and what it keeps. Where nobody has load, the greatest number takes the place and pays nothing. The loads are those of the coflows that
-/// wait, with one residual and one mark for each coflow; some coflow waits.
+/// The place that comes before those that are there: the first port with the greatest load, and there the coflow whose
+/// residual is used up first, with what it pays for each unit of load and what it keeps. Where nobody has load, the
+/// greatest number takes the place and pays nothing. The loads are those of the coflows that wait, with one residual
+/// and one mark for each coflow; some coflow waits.
 pub fn choose(loads: &Loads, residuals: &[u128], waiting: &[bool]) -> Place
     requires ready { IsReady loads.now residuals.now waiting.now }
     requires some { 0 < count_by (λ waits. waits) waiting.now }
@@ -127,7 +130,8 @@ fn greatest_waiting(waiting: &[bool]) -> u32
     greatest
 }
 
-/// The coflow with load on the port whose ratio of residual to load is least. Ratios are compared by products, which stay below 2^113.
+/// The coflow with load on the port whose ratio of residual to load is least. Ratios are compared by products, which
+/// stay below 2^113.
 fn least_ratio(loads: &Loads, residuals: &[u128], port: Port) -> u32
     requires residuals_len { length residuals.now ≡ loads.now.coflows }
     requires residuals_fit { (coflow : ℕ) → coflow < loads.now.coflows → slice_index residuals.now coflow ≤ 2 ^ 72 }
@@ -154,7 +158,8 @@ fn least_ratio(loads: &Loads, residuals: &[u128], port: Port) -> u32
     least
 }
 
-/// Each coflow pays y for each unit of its load on the port; none has less left than that. There is one residual for each coflow.
+/// Each coflow pays y for each unit of its load on the port; none has less left than that. There is one residual for
+/// each coflow.
 pub fn pay(residuals: &mut [u128], loads: &Loads, port: Port, y: u128)
     requires residuals_len { length residuals.old ≡ loads.now.coflows }
     requires port_in { port.number < loads.now.ports }

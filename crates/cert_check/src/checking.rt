@@ -16,9 +16,10 @@ use port_load::Loads;
 use report_text::Report;
 use std::alloc::Global;
 
-/// Whether a report is right for the coflows of a table, with one weight for each, by number, of at most 2^32. The loads are those of the table's flows. The
-/// report is one that a text can state, as `read_report` gives it: it has at most 2^41 - 1 slots, each run has one slot or more and ascending flows, neighbouring
-/// runs differ, and where weights are stated, each place has one, from 1 to 2^32.
+/// Whether a report is right for the coflows of a table, with one weight for each, by number, of at most 2^32. The
+/// loads are those of the table's flows. The report is one that a text can state, as `read_report` gives it: it has at
+/// most 2^41 - 1 slots, each run has one slot or more and ascending flows, neighbouring runs differ, and where weights
+/// are stated, each place has one, from 1 to 2^32.
 ///
 /// `Yes` comes exactly where all of this holds, which `IsSound` says:
 ///
@@ -28,12 +29,14 @@ use std::alloc::Global;
 /// - the stated bound is at most that of the certificate, and the slack is its slack;
 /// - each flow is sent its units, no port is used twice in a slot, and no slot has a number that is no flow's;
 /// - each coflow is completed in the slot that its place states;
-/// - the cost is the sum over the coflows of weight times completion, and it is at most four times the stated bound and the slack.
+/// - the cost is the sum over the coflows of weight times completion, and it is at most four times the stated bound and
+///   the slack.
 ///
-/// Else the first reason comes, in the order of `Reason`. The error is want of memory, which may come in place of any answer.
+/// Else the first reason comes, in the order of `Reason`. The error is want of memory, which may come in place of any
+/// answer.
 ///
-/// Nothing that the report says is trusted: its ids may be anybody's, its ports out of range, and its prices any numbers of 128 bits. So a yes says that no
-/// valid schedule costs less than the stated bound, whoever made the report.
+/// Nothing that the report says is trusted: its ids may be anybody's, its ports out of range, and its prices any
+/// numbers of 128 bits. So a yes says that no valid schedule costs less than the stated bound, whoever made the report.
 pub fn check(
     alloc: Global,
     table: &Table,

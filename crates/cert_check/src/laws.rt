@@ -9,8 +9,8 @@ ghost use Rattle.cert_check.specs.declared.verdict.Verdict.{Verdict};
 ghost use Rattle.cert_check.specs.Reasons.{IsVerdict};
 ghost use Rattle.cert_check.specs.Sound.{IsSound};
 
-/// No valid schedule of the instance, patient or not, costs less than the bound that a right report states, whoever made it; and its own schedule costs at most
-/// four times as much as any, and the slack.
+/// No valid schedule of the instance, patient or not, costs less than the bound that a right report states, whoever
+/// made it; and its own schedule costs at most four times as much as any, and the slack.
 pub fn yes_bounds_every_schedule()
     ensures bound { (i : Instance) (ids : List ℕ) (r : Report) (slots : List (List ℕ)) → IsSound i ids r →
         IsValid i.flows slots → r.bound ≤ cost i.flows i.weight i.coflows slots }

@@ -1,4 +1,5 @@
-//! A checker of reports of plans, by whomever made: it trusts nothing that they say, and answers yes, or the first reason why a report is not right.
+//! A checker of reports of plans, by whomever made: it trusts nothing that they say, and answers yes, or the first
+//! reason why a report is not right.
 #![tactic(auto)]
 
 mod certificate;

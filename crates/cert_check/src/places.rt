@@ -22,8 +22,8 @@ pub enum Named {
     Wrong(u32),
 }
 
-/// Looks up the coflows of the places by their ids. The first wrong place is one whose id is no coflow's or stood at a place before,
-/// or the one past the last where some coflow has no place. The error is want of memory.
+/// Looks up the coflows of the places by their ids. The first wrong place is one whose id is no coflow's or stood at a
+/// place before, or the one past the last where some coflow has no place. The error is want of memory.
 pub fn coflows_of(alloc: Global, table: &Table, places: &[PlaceLine]) -> Result<Named, NoMemory>
     ensures { IfOk result (λ named. IsNamed table.now.ids places.now named) }
 {
@@ -53,7 +53,8 @@ fn coflows_by_id(alloc: Global, table: &Table) -> Result<IndexMap<u32, u32>, NoM
     Ok(coflows)
 }
 
-/// The first place, counted from 1, whose port has a number that is not below the number of ports, with that number. There are at most 4096 places.
+/// The first place, counted from 1, whose port has a number that is not below the number of ports, with that number.
+/// There are at most 4096 places.
 pub fn out_of_range(ports: u32, places: &[PlaceLine]) -> Option<(u32, u32)>
     requires { length places.now ≤ MAX_COFLOWS }
     ensures { MatchOption result (All (λ (p : PlaceLine). p.port.number < ports) places.now)

@@ -16,7 +16,8 @@ pub(crate) struct Claim {
     pub(crate) real: u64,
 }
 
-/// The wrong number of the least coflow. Each place has a coflow and states a number of it; the real numbers go by coflow.
+/// The wrong number of the least coflow. Each place has a coflow and states a number of it; the real numbers go by
+/// coflow.
 pub(crate) fn least_wrong(coflows: &[u32], stated: &[u64], real: &[u64]) -> Option<Claim>
     requires each { length stated.now ≡ length coflows.now }
     requires within { All (λ c. c < length real.now) coflows.now }

@@ -10,11 +10,13 @@ pub enum Verdict {
     No(Reason),
 }
 
-/// Why a report is not right. The kinds stand in the order in which they are looked for. `stated` is what the report says, `real` what it should say.
-/// Coflows and flows have their numbers of the table, from 0; places and slots count from 1.
+/// Why a report is not right. The kinds stand in the order in which they are looked for. `stated` is what the report
+/// says, `real` what it should say. Coflows and flows have their numbers of the table, from 0; places and slots count
+/// from 1.
 #[derive(Clone, Copy, Debug, PartialEq, Eq)]
 pub enum Reason {
-    /// The id at this place is no coflow's or stands at a place before. Where places are too few, it is the one past the last.
+    /// The id at this place is no coflow's or stands at a place before. Where places are too few, it is the one past
+    /// the last.
     NotPermutation { place: u32 },
     /// The port at this place has a number that is out of range.
     PortRange { place: u32, number: u32 },

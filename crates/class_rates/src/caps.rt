@@ -17,10 +17,12 @@ use coflow_units::{Flow, NoMemory, Side};
 use flow_table::Table;
 use std::alloc::Global;
 
-/// What a schedule of the table's flows costs at most, where it keeps the classes and leaves no port idle that could serve.
+/// What a schedule of the table's flows costs at most, where it keeps the classes and leaves no port idle that could
+/// serve.
 ///
-/// A flow ends no later than its cap: the loads, in units, of its two ports over all coflows of its class and of those before it, less its own units. A coflow has
-/// the greatest cap of its flows. The answer is the sum of weight times cap, with one weight and one class for each coflow of the table. The error is want of memory.
+/// A flow ends no later than its cap: the loads, in units, of its two ports over all coflows of its class and of those
+/// before it, less its own units. A coflow has the greatest cap of its flows. The answer is the sum of weight times
+/// cap, with one weight and one class for each coflow of the table. The error is want of memory.
 pub fn cap(
     alloc: Global,
     table: &Table,
@@ -48,7 +50,8 @@ pub fn cap(
     Ok(total)
 }
 
-/// Writes the cap of each coflow, class by class. The loads of the ports of both sides are for its use; they and the caps are 0 before.
+/// Writes the cap of each coflow, class by class. The loads of the ports of both sides are for its use; they and the
+/// caps are 0 before.
 fn fill_caps(
     flows: &[Flow],
     numbers: &[u32],

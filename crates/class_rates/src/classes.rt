@@ -8,7 +8,8 @@ use std::marker::Model;
 /// The classes that an order may be folded into, from 1.
 pub const MAX_CLASSES: u32 = 64;
 
-/// The coflows of an order in classes, as many as a switch has priorities. Classes count from 1, and the first one is served first.
+/// The coflows of an order in classes, as many as a switch has priorities. Classes count from 1, and the first one is
+/// served first.
 ///
 /// Contracts see a `Classes` as the number of classes, the class of each coflow by number, and the class order.
 #[derive(Drop)]

@@ -5,6 +5,7 @@
 pub enum Fold {
     /// Each class has as many coflows as each other one, as far as whole coflows allow.
     Count,
-    /// Each class has as much load as each other one, as far as whole coflows allow. A coflow counts by its greatest load on a port.
+    /// Each class has as much load as each other one, as far as whole coflows allow. A coflow counts by its greatest
+    /// load on a port.
     Load,
 }

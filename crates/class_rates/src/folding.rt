@@ -11,10 +11,12 @@ use std::alloc::Global;
 
 /// The classes of an order of coflows, as a switch with so many priorities can serve it.
 ///
-/// `order` has each coflow once: the numbers from 0 on. `loads` has the load of each coflow, by number. There may be from 1 to 64 classes. The order is cut into as many parts as there are classes, of equal
-/// count or of equal load, and a coflow has the class of the part in which it begins. So classes do not fall along the order. By count, of n coflows the one at place r, counted from 0, has the
-/// class `1 + r * classes / n`, rounded down; by load it is `1 + before * classes / all`, where `before` is the load of the coflows before it and `all` that of all, and at most the last class. Where no
-/// coflow has load, all have class 1. The error is want of memory.
+/// `order` has each coflow once: the numbers from 0 on. `loads` has the load of each coflow, by number. There may be
+/// from 1 to 64 classes. The order is cut into as many parts as there are classes, of equal count or of equal load, and
+/// a coflow has the class of the part in which it begins. So classes do not fall along the order. By count, of n
+/// coflows the one at place r, counted from 0, has the class `1 + r * classes / n`, rounded down; by load it is `1 +
+/// before * classes / all`, where `before` is the load of the coflows before it and `all` that of all, and at most the
+/// last class. Where no coflow has load, all have class 1. The error is want of memory.
 pub fn fold_order(
     alloc: Global,
     order: &[u32],

@@ -13,12 +13,13 @@ ghost use Rattle.class_rates.specs.Classes.{ClassFacts, IsClassOrder, IsFolded, 
 ghost use Rattle.class_rates.specs.Classes.{class_by, class_in, class_of};
 ghost use Rattle.class_rates.specs.Rows.{Caps, ClassOrders, ClassesAlong, ClassesByLoad, cap_of_two, folded};
 
-/// In a valid schedule that keeps classes and leaves no port idle that could serve, each flow ends no later than its cap: the loads of its two ports over the coflows of
-/// its class and of those before it, less its own units. So each coflow ends by its cap, and the schedule costs at most the sum of weight times cap, whichever
-/// flow of a class is served first.
+/// In a valid schedule that keeps classes and leaves no port idle that could serve, each flow ends no later than its
+/// cap: the loads of its two ports over the coflows of its class and of those before it, less its own units. So each
+/// coflow ends by its cap, and the schedule costs at most the sum of weight times cap, whichever flow of a class is
+/// served first.
 ///
-/// Source: the argument for order-preserving schedules of Agarwal, Rajakrishnan, Narayan, Agarwal, Shmoys and Vahdat, "Sincronia: near-optimal network design for coflows", SIGCOMM 2018,
-/// with classes for coflows.
+/// Source: the argument for order-preserving schedules of Agarwal, Rajakrishnan, Narayan, Agarwal, Shmoys and Vahdat,
+/// "Sincronia: near-optimal network design for coflows", SIGCOMM 2018, with classes for coflows.
 pub fn class_is_short()
     ensures flow { (i : Instance) (class : ℕ → ℕ) (slots : List (List ℕ)) (f : ℕ) → IsInstance i →
         IsValid i.flows slots → IsClassPatient i.flows class slots → f < length i.flows →
@@ -39,7 +40,8 @@ pub fn class_order_is_one()
         IsDistinct order }
 {}
 
-/// A cap depends on the classes of the coflows alone. So folded classes have the cap of the order that was folded, whose classes go by its places.
+/// A cap depends on the classes of the coflows alone. So folded classes have the cap of the order that was folded,
+/// whose classes go by its places.
 pub fn cap_is_of_the_order()
     ensures classes { (flows : List Flow) (weight : ℕ → ℕ) (coflows : List ℕ) (class other : ℕ → ℕ) →
         ((c : ℕ) → Contains coflows c → class c ≡ other c) →
@@ -61,7 +63,8 @@ pub fn count_goes_by_places()
         class_by (λ c. 1) order classes coflow ≡ class_in order classes coflow }
 {}
 
-/// A schedule that is patient for an order along which classes do not fall keeps these classes. So does one that is patient for the class order, and the served schedule of the class order.
+/// A schedule that is patient for an order along which classes do not fall keeps these classes. So does one that is
+/// patient for the class order, and the served schedule of the class order.
 pub fn class_order_keeps_classes()
     ensures along { (flows : List Flow) (class : ℕ → ℕ) (order : List ℕ) (slots : List (List ℕ)) →
         RisesAlong class order → ((f : ℕ) → f < length flows → Contains order (coflow_of flows f)) →
@@ -76,8 +79,8 @@ pub fn class_order_keeps_classes()
         IsServed flows order slots → IsClassPatient flows class slots }
 {}
 
-/// Of two coflows of 3 units and of 1 unit at the same ports, the shorter one first, two classes have the cap 6 and one class has the cap 12. The classes, class orders and caps of small instances are as they were
-/// worked out by hand.
+/// Of two coflows of 3 units and of 1 unit at the same ports, the shorter one first, two classes have the cap 6 and one
+/// class has the cap 12. The classes, class orders and caps of small instances are as they were worked out by hand.
 pub fn rows_hold()
     ensures along { ClassesAlong }
     ensures loads { ClassesByLoad }

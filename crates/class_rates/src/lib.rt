@@ -1,4 +1,5 @@
-//! Orders of coflows folded into classes, for switches that have few priorities, and what a schedule that keeps classes costs at most.
+//! Orders of coflows folded into classes, for switches that have few priorities, and what a schedule that keeps classes
+//! costs at most.
 #![tactic(auto)]
 
 mod caps;

@@ -67,7 +67,8 @@ impl Model for Closing {
 impl Hall {
     /// Ends the hall, once all of its sessions are given, and hands back its master. It waits for nobody.
     ///
-    /// The error is that fewer sessions are given than the driver made, and then all is handed back; or want of memory, with which the close may be tried again.
+    /// The error is that fewer sessions are given than the driver made, and then all is handed back; or want of memory,
+    /// with which the close may be tried again.
     pub fn close(
         self,
         alloc: Global,

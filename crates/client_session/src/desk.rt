@@ -21,14 +21,16 @@ use rank_board::{Publisher, RankBoard, RankSeat};
 use std::marker::Model;
 use turnstile::Chronicle;
 
-/// What no turn changes: what the master began with, and the board that its ranks are published on. No value of it is made.
+/// What no turn changes: what the master began with, and the board that its ranks are published on. No value of it is
+/// made.
 #[derive(Drop)]
 pub struct Setting {
     pub opening: Opening,
     pub board: RankBoard,
 }
 
-/// The master, and the publisher of its ranks. Each version of the journal is published with its ranks before the turn ends that made it.
+/// The master, and the publisher of its ranks. Each version of the journal is published with its ranks before the turn
+/// ends that made it.
 #[derive(Drop)]
 pub struct Desk {
     master: Master,
@@ -81,7 +83,8 @@ impl Desk {
         Desk { master, publisher }
     }
 
-    /// How many entries the journal has. It is legal, its commands are in range, and runs in it are driven by the caller 0 alone. What the master began with is within its limits.
+    /// How many entries the journal has. It is legal, its commands are in range, and runs in it are driven by the
+    /// caller 0 alone. What the master began with is within its limits.
     pub fn position(&self) -> u32
         ensures position { result ≡ length self.now.journal }
         ensures opening { IsOpening self.now.setting.opening }
@@ -183,7 +186,8 @@ impl Desk {
         })
     }
 
-    /// Carries out a command of a caller, and publishes the version that it makes. The caller of runs is the one of number 0.
+    /// Carries out a command of a caller, and publishes the version that it makes. The caller of runs is the one of
+    /// number 0.
     pub fn step(&mut self, board: &RankBoard, who: u32, command: Command) -> Reply
         requires board { self.old.setting.board ≡ board.now }
         requires range { IsInRange self.old.setting.opening command }
@@ -200,7 +204,8 @@ impl Desk {
         reply
     }
 
-    /// A seat of the board meets the publisher: it has then seen the newest version, and so has each word that it loaded. Its noted pulls have the ranks of their versions.
+    /// A seat of the board meets the publisher: it has then seen the newest version, and so has each word that it
+    /// loaded. Its noted pulls have the ranks of their versions.
     pub fn meet(&mut self, board: &RankBoard, seat: &mut RankSeat)
         requires board { self.old.setting.board ≡ board.now }
         requires seat { seat.old.table ≡ board.now.table }

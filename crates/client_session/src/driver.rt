@@ -25,8 +25,8 @@ use turnstile::Root;
 
 /// The first caller of a hall, whose number is 0. It makes the sessions, and it alone opens and closes runs.
 ///
-/// Contracts see which hall it is of, how many sessions it made, how many of its calls are left, the journal as it was at the end of its last turn, and how long a journal it has seen.
-/// Its entries are those of number 0 in that journal.
+/// Contracts see which hall it is of, how many sessions it made, how many of its calls are left, the journal as it was
+/// at the end of its last turn, and how long a journal it has seen. Its entries are those of number 0 in that journal.
 pub struct Driver {
     pub(crate) root: Root<Desk>,
     pub(crate) rank: RankSeat,
@@ -72,7 +72,8 @@ impl Model for Driver {
 }
 
 impl Driver {
-    /// How many sessions the driver has made. In the journal that it has seen no entry has a greater number; that journal is legal, and runs in it are driven by the driver alone.
+    /// How many sessions the driver has made. In the journal that it has seen no entry has a greater number; that
+    /// journal is legal, and runs in it are driven by the driver alone.
     pub fn made(&self) -> u32
         ensures made { result ≡ self.now.made }
         ensures numbers { NoneAbove who_of self.now.made self.now.journal }
@@ -88,7 +89,8 @@ impl Driver {
         self.left
     }
 
-    /// The flow that is granted at an ingress in the open run of the journal that the driver has seen. `None` comes exactly where no run is open in it, or the ingress has no grant there.
+    /// The flow that is granted at an ingress in the open run of the journal that the driver has seen. `None` comes
+    /// exactly where no run is open in it, or the ingress has no grant there.
     pub fn granted(&self, ingress: u32) -> Option<u32>
         ensures { (c : Setting) → self.now.setting ≡ Some c → ingress < c.opening.table.ports →
             result ≡ flow_granted c.opening self.now.journal ingress }
@@ -96,7 +98,8 @@ impl Driver {
         self.granted.at(ingress)
     }
 
-    /// The flows that are granted in the open run of the journal that the driver has seen, by number. There are none where no run is open in it.
+    /// The flows that are granted in the open run of the journal that the driver has seen, by number. There are none
+    /// where no run is open in it.
     pub fn granted_flows(&self) -> &[u32]
         ensures { (c : Setting) → self.now.setting ≡ Some c → result.now ≡ all_granted c.opening self.now.journal }
     {
@@ -111,7 +114,8 @@ impl Driver {
         self.granted.ingresses()
     }
 
-    /// Makes the list the flows that are granted in the open run of the journal that the driver has seen, by number. There are none where no run is open in it. There is room for a flow of each port.
+    /// Makes the list the flows that are granted in the open run of the journal that the driver has seen, by number.
+    /// There are none where no run is open in it. There is room for a flow of each port.
     pub fn list_granted(&self, hall: &Hall, flows: &mut Vec<u32>)
         requires own { IsDriverOf hall.now self.now }
         requires room { hall.now.setting.opening.table.ports ≤ vec_capacity flows.old }
@@ -124,7 +128,8 @@ impl Driver {
 
     /// Asks that a run of at most so many slots is opened. It takes one turn, which may wait, and no memory.
     ///
-    /// `Spent` comes exactly where fewer calls are left than the run may need: this one, a note for each port, and its close.
+    /// `Spent` comes exactly where fewer calls are left than the run may need: this one, a note for each port, and its
+    /// close.
     pub fn open_run<R: Wait>(&mut self, rt: &R, hall: &Hall, most: u64) -> Answer
         requires own { IsDriverOf hall.now self.old }
         requires most { 1 ≤ most }
@@ -137,7 +142,8 @@ impl Driver {
         self.ask(rt, hall, Command::Open(most))
     }
 
-    /// Asks for the note that so many units were sent from an ingress port in the open run. It takes one turn, which may wait, and no memory.
+    /// Asks for the note that so many units were sent from an ingress port in the open run. It takes one turn, which
+    /// may wait, and no memory.
     pub fn short<R: Wait>(&mut self, rt: &R, hall: &Hall, port: u32, sent: u64) -> Answer
         requires own { IsDriverOf hall.now self.old }
         requires port { port < hall.now.setting.opening.table.ports }
@@ -180,8 +186,9 @@ impl Driver {
         self.ask(rt, hall, Command::Withdraw(coflow))
     }
 
-    /// Asks that the present coflows are ordered anew. It takes one turn, which may wait, and no memory. Where it is answered with a version, the list becomes the places of that
-    /// version, and else it stays as it was. It has room for one place for each coflow.
+    /// Asks that the present coflows are ordered anew. It takes one turn, which may wait, and no memory. Where it is
+    /// answered with a version, the list becomes the places of that version, and else it stays as it was. It has room
+    /// for one place for each coflow.
     pub fn publish_out<R: Wait>(&mut self, rt: &R, hall: &Hall, places: &mut Vec<Place>) -> Answer
         requires own { IsDriverOf hall.now self.old }
         requires room { length hall.now.setting.opening.table.ids ≤ vec_capacity places.old }

@@ -12,7 +12,8 @@ use rank_board::{Publisher, RankBoard, RankSeat};
 use std::alloc::Global;
 use std::marker::Model;
 
-/// What is granted in the run that is open after a journal: its flows by number, and beside each the ingress port at which it begins.
+/// What is granted in the run that is open after a journal: its flows by number, and beside each the ingress port at
+/// which it begins.
 ///
 /// Contracts see how many ingress ports there are, and the two lists.
 #[derive(Drop)]
@@ -121,8 +122,8 @@ fn copy_numbers(from: &[u32], to: &mut Vec<u32>)
     };
 }
 
-/// Makes the list the same as these elements, for which it has room, with no more room than before. What the list had is
-/// written over.
+/// Makes the list the same as these elements, for which it has room, with no more room than before. What the list had
+/// is written over.
 pub(crate) fn write_over<T: Copy>(from: &[T], to: &mut Vec<T>)
     requires room { length from.now ≤ vec_capacity to.old }
     ensures elements { to.new.items ≡ from.now }

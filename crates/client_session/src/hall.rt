@@ -93,7 +93,8 @@ impl Hall {
         self.board.coflows()
     }
 
-    /// Makes a session with the next number, from 1 on, which may take so many turns. It has seen as long a journal as the driver has seen, and has no entries. A driver makes at most 2^16 sessions.
+    /// Makes a session with the next number, from 1 on, which may take so many turns. It has seen as long a journal as
+    /// the driver has seen, and has no entries. A driver makes at most 2^16 sessions.
     ///
     /// The error is want of memory for the session's receipts, and the driver is as before.
     pub fn session(
@@ -120,8 +121,9 @@ impl Hall {
         })
     }
 
-    /// Lets the driver and these sessions see what any of them has seen: each has then seen the longest journal that one of them had seen, and each session a version that is
-    /// not below one that a session had seen. It waits for nobody, and takes no memory.
+    /// Lets the driver and these sessions see what any of them has seen: each has then seen the longest journal that
+    /// one of them had seen, and each session a version that is not below one that a session had seen. It waits for
+    /// nobody, and takes no memory.
     pub fn level(&self, driver: &mut Driver, sessions: &mut [Session])
         requires driver { IsDriverOf self.now driver.old }
         requires sessions { All (IsSessionOf self.now) sessions.old }

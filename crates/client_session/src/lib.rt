@@ -1,4 +1,5 @@
-//! Many clients of one master at once. Each takes its turns in a session of its own, which keeps a receipt of each, and reads ranks without waiting.
+//! Many clients of one master at once. Each takes its turns in a session of its own, which keeps a receipt of each, and
+//! reads ranks without waiting.
 #![tactic(auto)]
 
 mod close;

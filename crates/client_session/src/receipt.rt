@@ -4,7 +4,8 @@ ghost use Rattle.client_session.specs.Answers.{answer_of, makes_version};
 
 use journal::Reply;
 
-/// What a turn was answered: the position of its entry in the journal, counted from 1, the newest version after that entry, and the master's reply.
+/// What a turn was answered: the position of its entry in the journal, counted from 1, the newest version after that
+/// entry, and the master's reply.
 #[derive(Clone, Copy, Debug, PartialEq, Eq)]
 pub struct Receipt {
     pub position: u32,
@@ -19,12 +20,14 @@ pub enum Answer {
     Done(Receipt),
     /// The journal had no room, and so many entries. Nothing was added, but a call is used up.
     Full(u32),
-    /// Too few calls are left for the command, and no turn was taken. It is so where none is left, and for an opening of a run where fewer are left than the run may need.
+    /// Too few calls are left for the command, and no turn was taken. It is so where none is left, and for an opening
+    /// of a run where fewer are left than the run may need.
     Spent,
 }
 
 impl Answer {
-    /// The answer where a turn was taken: the receipt of its entry, or how many entries the journal has, which has no room.
+    /// The answer where a turn was taken: the receipt of its entry, or how many entries the journal has, which has no
+    /// room.
     pub fn of_turn(turn: Result<Receipt, u32>) -> Answer
         ensures { result ≡ answer_of turn }
     {

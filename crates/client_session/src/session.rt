@@ -19,10 +19,11 @@ use std::marker::Model;
 use std::sync::Wait;
 use turnstile::TurnSeat;
 
-/// A client of a hall. Its turn calls wait until it is served, add an entry to the journal, and are answered by a receipt; its pulls never wait.
+/// A client of a hall. Its turn calls wait until it is served, add an entry to the journal, and are answered by a
+/// receipt; its pulls never wait.
 ///
-/// Contracts see which hall it is of, its number, how many of its turn calls are left, how long a journal it has seen, its own entries, and its seat at the board of ranks.
-/// A session that is dropped never comes back to its hall.
+/// Contracts see which hall it is of, its number, how many of its turn calls are left, how long a journal it has seen,
+/// its own entries, and its seat at the board of ranks. A session that is dropped never comes back to its hall.
 pub struct Session {
     pub(crate) seat: TurnSeat<Desk>,
     pub(crate) rank: RankSeat,
@@ -97,8 +98,9 @@ impl Session {
         self.rank.seen()
     }
 
-    /// The receipts of the session's turns, in their order. What it noted stands between them: a noted pull has no version below those of the receipts that were there, as many as
-    /// its mark, and its version was there before each later one.
+    /// The receipts of the session's turns, in their order. What it noted stands between them: a noted pull has no
+    /// version below those of the receipts that were there, as many as its mark, and its version was there before each
+    /// later one.
     pub fn receipts(&self) -> &[Receipt]
         ensures receipts { result.now ≡ map receipt_of self.now.own }
         ensures pass { IsPass self.now.own self.now.rank.pulls self.now.rank.seen }
@@ -124,7 +126,8 @@ impl Session {
         self.ask(rt, hall, Command::Withdraw(coflow))
     }
 
-    /// Asks that the present coflows are ordered anew. The new ranks stand on the board before the turn ends. It takes one turn, which may wait, and no memory.
+    /// Asks that the present coflows are ordered anew. The new ranks stand on the board before the turn ends. It takes
+    /// one turn, which may wait, and no memory.
     pub fn publish<R: Wait>(&mut self, rt: &R, hall: &Hall) -> Answer
         requires own { IsSessionOf hall.now self.old }
         ensures turn { IsTurn hall.now.setting.opening Publish self.old self.new result }
@@ -132,7 +135,8 @@ impl Session {
         self.ask(rt, hall, Command::Publish)
     }
 
-    /// Asks for the coflow's place in the newest order. It takes one turn, which may wait, and no memory; `pull` reads it without one.
+    /// Asks for the coflow's place in the newest order. It takes one turn, which may wait, and no memory; `pull` reads
+    /// it without one.
     pub fn pull_turn<R: Wait>(&mut self, rt: &R, hall: &Hall, coflow: u32) -> Answer
         requires own { IsSessionOf hall.now self.old }
         requires coflow { coflow < length hall.now.setting.opening.table.ids }
@@ -141,7 +145,8 @@ impl Session {
         self.ask(rt, hall, Command::Pull(coflow))
     }
 
-    /// Asks that the coflow gets another weight, from 1 to 2^32, which the next order takes. It takes one turn, which may wait, and no memory.
+    /// Asks that the coflow gets another weight, from 1 to 2^32, which the next order takes. It takes one turn, which
+    /// may wait, and no memory.
     pub fn reweigh<R: Wait>(&mut self, rt: &R, hall: &Hall, coflow: u32, weight: u64) -> Answer
         requires own { IsSessionOf hall.now self.old }
         requires coflow { coflow < length hall.now.setting.opening.table.ids }
@@ -151,11 +156,13 @@ impl Session {
         self.ask(rt, hall, Command::Reweigh { coflow, weight })
     }
 
-    /// Reads the coflow's place in the newest order from the board, without waiting and without memory. The session notes what it read, with the number of its receipts as the mark.
+    /// Reads the coflow's place in the newest order from the board, without waiting and without memory. The session
+    /// notes what it read, with the number of its receipts as the mark.
     ///
-    /// `Rank` and `Unranked` have the version that the front had in this call. `Unranked` comes exactly where that is 0, or the rank word that was loaded has that version and
-    /// rank 0. `Moved` comes only where the rank word that was loaded in this call has a version at least two above that of the front; nothing is noted then. What a noted pull says
-    /// is told where the hall closes.
+    /// `Rank` and `Unranked` have the version that the front had in this call. `Unranked` comes exactly where that is
+    /// 0, or the rank word that was loaded has that version and rank 0. `Moved` comes only where the rank word that was
+    /// loaded in this call has a version at least two above that of the front; nothing is noted then. What a noted pull
+    /// says is told where the hall closes.
     pub fn pull(&mut self, hall: &Hall, coflow: u32) -> Pulled
         requires own { IsSessionOf hall.now self.old }
         requires coflow { coflow < length hall.now.setting.opening.table.ids }

@@ -9,7 +9,8 @@ use crate::desk::Desk;
 use crate::granted::Granted;
 use turnstile::{Root, Turn, Turnstile};
 
-/// Ends a turn of the caller 0, and keeps what is granted in the open run. The answer is the length of the journal, which is one that callers may see.
+/// Ends a turn of the caller 0, and keeps what is granted in the open run. The answer is the length of the journal,
+/// which is one that callers may see.
 pub fn end_turn(
     gate: &Turnstile<Desk>,
     root: &mut Root<Desk>,

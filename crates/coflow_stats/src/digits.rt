@@ -14,7 +14,8 @@ pub(crate) fn push_decimal(text: &mut Vec<u8>, number: u128) -> Result<(), NoMem
     Ok(())
 }
 
-/// Writes a number of thousandths at the end of the text, with three digits behind the point. The error is want of memory.
+/// Writes a number of thousandths at the end of the text, with three digits behind the point. The error is want of
+/// memory.
 pub(crate) fn push_thousandths(text: &mut Vec<u8>, number: u128) -> Result<(), NoMemory>
     ensures { OnOk result (text.new.items ≡ text.old.items ++ of_thousandths number) }
 {
@@ -24,7 +25,8 @@ pub(crate) fn push_thousandths(text: &mut Vec<u8>, number: u128) -> Result<(), N
     Ok(())
 }
 
-/// Writes a number of ten-thousandths at the end of the text, with four digits behind the point. The error is want of memory.
+/// Writes a number of ten-thousandths at the end of the text, with four digits behind the point. The error is want of
+/// memory.
 pub(crate) fn push_ten_thousandths(text: &mut Vec<u8>, number: u128) -> Result<(), NoMemory>
     ensures { OnOk result (text.new.items ≡ text.old.items ++ of_ten_thousandths number) }
 {

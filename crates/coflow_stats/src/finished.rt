@@ -15,8 +15,9 @@ use run_list::Runs;
 use schedule_model::completions_of_runs;
 use std::alloc::Global;
 
-/// What is told of each coflow of a table, by number, in the schedule of these runs, with a weight and an arrival for each coflow. The arrival is the slot after which it may be served.
-/// The numbers in the runs are flows'. The error is want of memory.
+/// What is told of each coflow of a table, by number, in the schedule of these runs, with a weight and an arrival for
+/// each coflow. The arrival is the slot after which it may be served. The numbers in the runs are flows'. The error is
+/// want of memory.
 pub fn finished_of(
     alloc: Global,
     table: &Table,

@@ -4,7 +4,8 @@ ghost use Rattle.std.specs.List.Sorted.{IsNonDecreasingBy};
 ghost use Rattle.coflow_units.specs.declared.limits.TheConstants.{MAX_COFLOWS};
 ghost use Rattle.coflow_stats.specs.Percentile.{IsPercentile, rank};
 
-/// The number at so many per cent, from 1 to 100, of a list in ascending order, which has a number and at most 4096: the one at the nearest rank.
+/// The number at so many per cent, from 1 to 100, of a list in ascending order, which has a number and at most 4096:
+/// the one at the nearest rank.
 pub(crate) fn percentile(percent: usize, sorted: &[u64]) -> u64
     requires some_percent { 1 ≤ percent }
     requires all_percent { percent ≤ 100 }

@@ -5,7 +5,8 @@ ghost use Rattle.coflow_stats.specs.Text.{ratio_words, ten_thousandths};
 use crate::digits::push_ten_thousandths;
 use coflow_units::NoMemory;
 
-/// Writes cost by bound behind a space at the end of the text, in ten-thousandths that are rounded up, or a hyphen where the bound is 0. The error is want of memory.
+/// Writes cost by bound behind a space at the end of the text, in ten-thousandths that are rounded up, or a hyphen
+/// where the bound is 0. The error is want of memory.
 pub(crate) fn push_ratio(text: &mut Vec<u8>, cost: u128, bound: u128) -> Result<(), NoMemory>
     requires { cost ≤ 2 ^ 100 }
     ensures { OnOk result (text.new.items ≡ text.old.items ++ ratio_words cost bound) }

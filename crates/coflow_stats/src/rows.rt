@@ -9,8 +9,9 @@ use crate::value::Finished;
 use coflow_units::NoMemory;
 use std::alloc::Global;
 
-/// The text of the coflows of a schedule, where a unit has so many megabytes: the line `id,arrival,flows,units,bottleneck,weight,completion,duration,group`, and a line for each
-/// coflow. A group is spelled `short-narrow`, `long-narrow`, `short-wide` or `long-wide`, and each line ends with one line feed.
+/// The text of the coflows of a schedule, where a unit has so many megabytes: the line
+/// `id,arrival,flows,units,bottleneck,weight,completion,duration,group`, and a line for each coflow. A group is spelled
+/// `short-narrow`, `long-narrow`, `short-wide` or `long-wide`, and each line ends with one line feed.
 ///
 /// The error is want of memory.
 pub fn write_rows(alloc: Global, unit: u64, coflows: &[Finished]) -> Result<Vec<u8>, NoMemory>

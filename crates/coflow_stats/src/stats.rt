@@ -14,8 +14,8 @@ use coflow_units::NoMemory;
 use run_list::Runs;
 use std::alloc::Global;
 
-/// The numbers of the schedule of these runs with these coflows, where a unit has so many megabytes. There are at most 4096 coflows, with weights of at most 2^32, and at most 2^41 - 1 slots.
-/// The error is want of memory.
+/// The numbers of the schedule of these runs with these coflows, where a unit has so many megabytes. There are at most
+/// 4096 coflows, with weights of at most 2^32, and at most 2^41 - 1 slots. The error is want of memory.
 pub fn stats_of(
     alloc: Global,
     unit: u64,

@@ -1,6 +1,7 @@
 //! Coflows of a schedule, and the numbers that are told of them. Slots count from 1.
 
-/// The groups of coflows by the size of their longest flow and by how many flows they have: four, as Chowdhury, Zhong and Stoica count them ("Efficient coflow scheduling with Varys", SIGCOMM 2014).
+/// The groups of coflows by the size of their longest flow and by how many flows they have: four, as Chowdhury, Zhong
+/// and Stoica count them ("Efficient coflow scheduling with Varys", SIGCOMM 2014).
 #[derive(Clone, Copy, Debug, PartialEq, Eq)]
 pub enum Group {
     /// No flow of 5 megabytes or more, and at most 50 flows.
@@ -46,7 +47,8 @@ pub struct Summary {
     pub ranks: Option<Ranks>,
 }
 
-/// What is known of a schedule as a whole: the lower bound on its cost, its cost, and whether it is that of an online run.
+/// What is known of a schedule as a whole: the lower bound on its cost, its cost, and whether it is that of an online
+/// run.
 #[derive(Clone, Copy, Debug, PartialEq, Eq)]
 pub struct Totals {
     pub bound: u128,

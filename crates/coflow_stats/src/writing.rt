@@ -15,10 +15,11 @@ use std::alloc::Global;
 
 /// The text of the numbers of a schedule, and in milliseconds too where those of a slot are given, at most 2^20.
 ///
-/// Words are separated by one space, and each line ends with one line feed. The lines are `sincronia stats 1`, `coflows N`, `bound B`, `cost C` and `ratio R`; of an online run
-/// `arrivals A`, `net-bound D`, `net-cost E` and `net-ratio R`, which are less what arrivals cost; `makespan M`; `slots NAME N mean X median V p95 V p99 V` of all coflows and of
-/// each group, or `slots NAME 0` where it has none; the same with `ms` in place of `slots`; and `end`. A ratio has four digits behind the point and is rounded up, and is `-` where
-/// the bound is 0. A mean has three, and is rounded down.
+/// Words are separated by one space, and each line ends with one line feed. The lines are `sincronia stats 1`, `coflows
+/// N`, `bound B`, `cost C` and `ratio R`; of an online run `arrivals A`, `net-bound D`, `net-cost E` and `net-ratio R`,
+/// which are less what arrivals cost; `makespan M`; `slots NAME N mean X median V p95 V p99 V` of all coflows and of
+/// each group, or `slots NAME 0` where it has none; the same with `ms` in place of `slots`; and `end`. A ratio has four
+/// digits behind the point and is rounded up, and is `-` where the bound is 0. A mean has three, and is rounded down.
 ///
 /// The error is want of memory.
 pub fn write_stats(alloc: Global, stats: &Stats, slot_ms: Option<u64>) -> Result<Vec<u8>, NoMemory>

@@ -1,5 +1,5 @@
-//! Ports and flows of the fabric, seen as one big switch without contention inside (Chowdhury, Zhong and Stoica, "Efficient coflow scheduling
-//! with Varys", SIGCOMM 2014). Ingress port 3 and egress port 3 are different ports.
+//! Ports and flows of the fabric, seen as one big switch without contention inside (Chowdhury, Zhong and Stoica,
+//! "Efficient coflow scheduling with Varys", SIGCOMM 2014). Ingress port 3 and egress port 3 are different ports.
 
 /// The side of the fabric on which a port lies.
 #[derive(Clone, Copy, Debug, PartialEq, Eq)]

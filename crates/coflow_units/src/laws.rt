@@ -55,7 +55,8 @@ pub fn grants_are_not_idle()
         (g : ℕ) × Contains granted g }
 {}
 
-/// The grants of a slot may be served as they are for one number of slots, the greatest that is asked for and that each granted flow has units for.
+/// The grants of a slot may be served as they are for one number of slots, the greatest that is asked for and that each
+/// granted flow has units for.
 pub fn run_length_is_one()
     ensures exists { (left : ℕ → ℕ) (granted : List ℕ) (most : ℕ) → (n : ℕ) × IsRunLength left granted most n }
     ensures one { (left : ℕ → ℕ) (granted : List ℕ) (most a b : ℕ) → IsRunLength left granted most a →
@@ -75,7 +76,8 @@ pub fn served_exists()
         (slots : List (List ℕ)) × IsServed flows line slots }
 {}
 
-/// The served schedule of an order is valid and patient for that order: it serves each unit once, and a flow waits only where a port serves a coflow no later in the order.
+/// The served schedule of an order is valid and patient for that order: it serves each unit once, and a flow waits only
+/// where a port serves a coflow no later in the order.
 pub fn served_is_patient()
     ensures valid { (flows : List Flow) (line : List ℕ) (slots : List (List ℕ)) → IsServed flows line slots →
         IsValid flows slots }
@@ -83,7 +85,8 @@ pub fn served_is_patient()
         IsPatient flows line slots }
 {}
 
-/// Where something is granted, the same grants may be served for n slots at once, as long as each granted flow has n units left. So runs and single slots make the same schedule.
+/// Where something is granted, the same grants may be served for n slots at once, as long as each granted flow has n
+/// units left. So runs and single slots make the same schedule.
 pub fn served_by_runs()
     ensures { (flows : List Flow) (line : List ℕ) (slots : List (List ℕ)) (granted : List ℕ) (n f : ℕ) →
         IsServedSoFar flows line slots → IsGrants flows line (left_after flows slots) granted → Contains granted f →
@@ -122,7 +125,9 @@ pub fn small_cases_hold()
     ensures refuses { TwoFlowsRefuse }
 {}
 
-/// The word of a port tells whether its last post waits for an agent, was drawn, or was reported, and its slot and its flow. It tells neither the agent nor the units of a report. A port without a post and one whose post was taken back have the word 0, and no other has.
+/// The word of a port tells whether its last post waits for an agent, was drawn, or was reported, and its slot and its
+/// flow. It tells neither the agent nor the units of a report. A port without a post and one whose post was taken back
+/// have the word 0, and no other has.
 pub fn port_words_tell()
     ensures same { (slot flow slot' flow' : ℕ) → FitsWord slot flow → FitsWord slot' flow' →
         word_of granted slot flow ≡ word_of granted slot' flow' → (slot ≡ slot') × (flow ≡ flow') }
@@ -156,7 +161,8 @@ pub fn ordering_exists()
     ensures { (i : Instance) → IsInstance i → (entries : List Entry) × IsOrdering i entries }
 {}
 
-/// The ordering certificate is feasible; each of its ports has the greatest load of its front; and where that load is not 0, what the placed coflow keeps is below its own load there.
+/// The ordering certificate is feasible; each of its ports has the greatest load of its front; and where that load is
+/// not 0, what the placed coflow keeps is below its own load there.
 pub fn ordering_is_feasible()
     ensures feasible { (i : Instance) (entries : List Entry) → IsOrdering i entries →
         IsFeasible i.flows i.weight entries }
@@ -166,7 +172,8 @@ pub fn ordering_is_feasible()
         IsBelowLoads i.flows (rest i.flows i.weight entries) entries }
 {}
 
-/// The orders that were worked out by hand are the ordering certificates of their instances. One with another coflow at the last place is none, nor is one with y rounded up, nor one with a later port of as much load.
+/// The orders that were worked out by hand are the ordering certificates of their instances. One with another coflow at
+/// the last place is none, nor is one with y rounded up, nor one with a later port of as much load.
 pub fn rows_are_ordered()
     ensures equal_weights { IsOrdering equal_weights equal_weights_places }
     ensures unequal_weights { IsOrdering unequal_weights unequal_weights_places }

@@ -1,4 +1,5 @@
-//! Coflows on a fabric of ports: the values that all crates speak of, the limits of an input, and the definitions and laws that contracts cite.
+//! Coflows on a fabric of ports: the values that all crates speak of, the limits of an input, and the definitions and
+//! laws that contracts cite.
 #![tactic(auto)]
 
 mod fabric;

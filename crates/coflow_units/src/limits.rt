@@ -4,7 +4,8 @@
 pub const MAX_TEXT: usize = 67_108_864;
 /// The bytes of a report that is read: 2^30.
 pub const MAX_REPORT: usize = 1_073_741_824;
-/// The ports that the first line of a trace may name, from 1. Locations count from 0 to this number, so a side has one port more.
+/// The ports that the first line of a trace may name, from 1. Locations count from 0 to this number, so a side has one
+/// port more.
 pub const MAX_PORTS: u32 = 1024;
 /// The coflows of a trace.
 pub const MAX_COFLOWS: u32 = 4096;

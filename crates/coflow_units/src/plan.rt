@@ -6,7 +6,8 @@ use crate::items::Items;
 #[derive(Clone, Copy, Debug, PartialEq, Eq)]
 pub struct Place {
     pub coflow: u32,
-    /// The port that this place charges; in the ordering certificate the first one with the greatest load of the coflows up to this place.
+    /// The port that this place charges; in the ordering certificate the first one with the greatest load of the
+    /// coflows up to this place.
     pub port: Port,
     /// What each coflow up to this place pays for each unit of its load on the port, in parts of 2^40 of a weight of 1.
     pub y: u128,

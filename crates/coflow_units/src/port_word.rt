@@ -57,7 +57,8 @@ impl PortWord {
         self.stage.code() * STAGE + (self.slot * SLOT + u64::from(self.flow))
     }
 
-    /// What a word tells. `None` where it tells of no post, as that of a port where none was made, or where the last was taken back.
+    /// What a word tells. `None` where it tells of no post, as that of a port where none was made, or where the last
+    /// was taken back.
     pub fn of_bits(bits: u64) -> Option<PortWord>
         ensures stage { (w : PortWord) → result ≡ Some w → shows w.stage bits ≡ true }
         ensures post { (w : PortWord) → result ≡ Some w → (w.slot ≡ slot_of bits) × (w.flow ≡ flow_of bits) }

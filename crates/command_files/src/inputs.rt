@@ -1,4 +1,5 @@
-//! The files of a command: the trace, the weights of its coflows, and a report, a printed journal, an order or a script.
+//! The files of a command: the trace, the weights of its coflows, and a report, a printed journal, an order or a
+//! script.
 ghost use Rattle.std.specs.Prelude.{◌≡◌, ◌≤◌, ℕ, None, IfErr, IfOk, IfSome, OnOk, length, option_map, replicate};
 ghost use Rattle.coflow_units.specs.declared.limits.TheConstants.{MAX_REPORT};
 ghost use Rattle.coflow_units.specs.Trace.{IsTrace};
@@ -43,8 +44,8 @@ pub struct Input {
     pub weights: Items<u64>,
 }
 
-/// Reads the trace under a name, the weights under another where one is given, and makes the table of flows with units of that size.
-/// The error is the status that says why there is none.
+/// Reads the trace under a name, the weights under another where one is given, and makes the table of flows with units
+/// of that size. The error is the status that says why there is none.
 pub fn read_input<H: Shelf>(
     alloc: Global,
     name: &str,
@@ -129,7 +130,8 @@ fn equal_weights(alloc: Global, trace: &Trace) -> Result<Items<u64>, NoMemory>
     Ok(Items::from_vec(weights))
 }
 
-/// Reads the report under a name, that of a plan or of an online run. The error is the status that says why there is none.
+/// Reads the report under a name, that of a plan or of an online run. The error is the status that says why there is
+/// none.
 pub fn read_any_report_file<H: Shelf>(
     alloc: Global,
     name: &str,
@@ -182,8 +184,8 @@ pub fn read_journal_file<H: Shelf>(alloc: Global, name: &str, shelf: &mut H) -> 
     Ok(live)
 }
 
-/// Reads the order under a name, of the coflows of a table: their numbers, first served first. The error is the status that says
-/// why there is none.
+/// Reads the order under a name, of the coflows of a table: their numbers, first served first. The error is the status
+/// that says why there is none.
 pub fn read_order_file<H: Shelf>(
     alloc: Global,
     name: &str,

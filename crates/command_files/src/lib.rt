@@ -1,4 +1,5 @@
-//! The files of a command, and how its job ended: the trace, the weights of its coflows, and a report, a printed journal, an order or a script.
+//! The files of a command, and how its job ended: the trace, the weights of its coflows, and a report, a printed
+//! journal, an order or a script.
 #![tactic(auto)]
 
 mod inputs;

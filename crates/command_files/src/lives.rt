@@ -28,9 +28,10 @@ pub struct LiveInput {
     pub script: Script,
 }
 
-/// Reads the files of the command `live`: the trace and, where one is named, the weights, makes the table, which may have
-/// 2^20 units, and then reads the script over its coflows. The error is the status that says why there is none: the first
-/// of the trace, of the weights, of the table, of its units (`Limit` of `Units` with their number) and of the script.
+/// Reads the files of the command `live`: the trace and, where one is named, the weights, makes the table, which may
+/// have 2^20 units, and then reads the script over its coflows. The error is the status that says why there is none:
+/// the first of the trace, of the weights, of the table, of its units (`Limit` of `Units` with their number) and of the
+/// script.
 pub fn read_live_files<'a, H: Shelf>(
     alloc: Global,
     trace: &str,

@@ -11,8 +11,8 @@ use trace_reader::TraceFault;
 use weights::WeightsFault;
 use workload::ScriptFault;
 
-/// How the job ended. The `count` of a fault of shelf, sink or wire is the number of calls that failed, which is 1: the first
-/// one ends the job. Of wires further ones may have failed in the same run.
+/// How the job ended. The `count` of a fault of shelf, sink or wire is the number of calls that failed, which is 1: the
+/// first one ends the job. Of wires further ones may have failed in the same run.
 #[derive(Clone, Copy, Debug, PartialEq, Eq)]
 pub enum Status {
     /// The text was written whole. The answer of `check` or `audit` is yes.
@@ -27,21 +27,21 @@ pub enum Status {
     BadTrace(TraceFault),
     /// The file is no weights of the trace's coflows. The fault is the first in reading order, and one of form.
     BadWeights(WeightsFault),
-    /// The file is no report of the kind that its first line tells, or, for `audit`, no printed journal. No text of such a
-    /// kind has this line, counted from 1, after the lines before it.
+    /// The file is no report of the kind that its first line tells, or, for `audit`, no printed journal. No text of
+    /// such a kind has this line, counted from 1, after the lines before it.
     BadReport { line: u32 },
-    /// The file is no script over the trace's coflows. The fault is the first in reading order, and one of form: lines and
-    /// fields count from 1.
+    /// The file is no script over the trace's coflows. The fault is the first in reading order, and one of form: lines
+    /// and fields count from 1.
     BadScript { line: u32, field: u32 },
-    /// A counted quantity is outside its range. The count is told as 2^64 - 1 where it is greater. Of the bytes of a text,
-    /// of flows and of epochs, which are the orders of an online run, it is one more than the limit.
+    /// A counted quantity is outside its range. The count is told as 2^64 - 1 where it is greater. Of the bytes of a
+    /// text, of flows and of epochs, which are the orders of an online run, it is one more than the limit.
     Limit { which: Quantity, count: u64 },
     /// A call to the shelf failed.
     ReadFault { count: u32 },
     /// A call to the sink failed. A beginning of the text was written.
     WriteFault { count: u32 },
-    /// The wire of this ingress port did not accept a unit. For a plan it is the least port at which a unit of the last run is
-    /// missing.
+    /// The wire of this ingress port did not accept a unit. For a plan it is the least port at which a unit of the last
+    /// run is missing.
     WireFault { port: u32, count: u32 },
     /// No memory was to be had.
     NoMemory,

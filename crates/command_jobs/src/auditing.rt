@@ -17,8 +17,8 @@ use outside::Shelf;
 use report_text::Text;
 use std::alloc::Global;
 
-/// The line of the verdict on the printed journal of that name, for the coflows of the trace of the other, or the status
-/// of why there is none.
+/// The line of the verdict on the printed journal of that name, for the coflows of the trace of the other, or the
+/// status of why there is none.
 pub fn audit_journal<'a, H: Shelf>(
     alloc: Global,
     trace: &str,

@@ -1,5 +1,5 @@
-//! What each command does once its words are read: it reads its files, plans, serves or judges, and has the text that is
-//! written and the status that ends it.
+//! What each command does once its words are read: it reads its files, plans, serves or judges, and has the text that
+//! is written and the status that ends it.
 #![tactic(auto)]
 
 mod auditing;

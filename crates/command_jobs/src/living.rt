@@ -28,8 +28,8 @@ use std::alloc::Global;
 use std::sync::Wait;
 use std::thread::Threads;
 
-/// The text of a run of the script of one name over the trace of the other, whose units were sent on the wires. Each client
-/// passes its gate before each command.
+/// The text of a run of the script of one name over the trace of the other, whose units were sent on the wires. Each
+/// client passes its gate before each command.
 pub fn run_clients<'a, R: Threads + Wait + Sync, H: Shelf, W: Wire + Send, G: Gate + Send>(
     rt: &R,
     alloc: Global,

@@ -38,8 +38,8 @@ use trace_reader::{TraceFault, read_trace};
 use weights::{WeightsFault, read_weights};
 use workload::made;
 
-/// The summary of the plan of the trace that is made from a seed, whose units were sent on the wires, and whose report was read back and found right.
-/// There is one where there is memory and no wire fails.
+/// The summary of the plan of the trace that is made from a seed, whose units were sent on the wires, and whose report
+/// was read back and found right. There is one where there is memory and no wire fails.
 pub fn make_workload<'a, R: Threads + Wait + Sync, W: Wire + Send>(
     rt: &R,
     alloc: Global,

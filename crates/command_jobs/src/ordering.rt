@@ -17,8 +17,8 @@ use plans::report_of_order;
 use report_text::write_report;
 use std::alloc::Global;
 
-/// The text of the report of the order of that name, of the coflows of the trace of the other, or the status of why there
-/// is none.
+/// The text of the report of the order of that name, of the coflows of the trace of the other, or the status of why
+/// there is none.
 pub fn serve_order<'a, H: Shelf>(
     alloc: Global,
     trace: &str,

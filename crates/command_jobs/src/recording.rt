@@ -34,12 +34,12 @@ use replays::{Recorded, ReplayFault, record_replay, write_replay};
 use report_text::Text;
 use std::alloc::Global;
 
-/// The text of the record of the replay of one ranker on the trace of that name, whose coflows arrive: of the first ranker of the
-/// bench that has the name of the policy. Where an answer of it is no order, there is no record: then the status is `No`, and the
-/// text is that of the replay of this ranker alone.
+/// The text of the record of the replay of one ranker on the trace of that name, whose coflows arrive: of the first
+/// ranker of the bench that has the name of the policy. Where an answer of it is no order, there is no record: then the
+/// status is `No`, and the text is that of the replay of this ranker alone.
 ///
-/// On success the bench is empty. Where no ranker has the name, no file is looked at. Where more orders would be published than may
-/// be, or memory was wanting, the rankers up to the one of the name may be gone.
+/// On success the bench is empty. Where no ranker has the name, no file is looked at. Where more orders would be
+/// published than may be, or memory was wanting, the rankers up to the one of the name may be gone.
 pub fn record_policy<'a, H: Shelf>(
     alloc: Global,
     trace: &str,

@@ -30,8 +30,8 @@ use replays::{ReplayFault, replays_text};
 use report_text::Text;
 use std::alloc::Global;
 
-/// The text of the replays of the rankers of the bench on the trace of that name, whose coflows arrive. Each ranker that was
-/// reached is dropped; the bench keeps the others, in their order.
+/// The text of the replays of the rankers of the bench on the trace of that name, whose coflows arrive. Each ranker
+/// that was reached is dropped; the bench keeps the others, in their order.
 pub fn replay_rankers<'a, H: Shelf>(
     alloc: Global,
     trace: &str,

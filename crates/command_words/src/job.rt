@@ -45,7 +45,8 @@ pub(crate) fn with_policy<'a>(job: Job<'a>, policy: Option<&'a str>) -> Job<'a>
     }
 }
 
-/// The job of the command of this name and the words behind it. `None` where there is no such command, or it does not take them.
+/// The job of the command of this name and the words behind it. `None` where there is no such command, or it does not
+/// take them.
 pub(crate) fn job_of<'a>(name: &str, first: &'a str, second: Option<&'a str>) -> Option<Job<'a>>
     ensures { option_map job_by result ≡ job_of name.now first.now (option_map (λ s. s.now) second.entry) }
 {

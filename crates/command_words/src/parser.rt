@@ -16,7 +16,8 @@ const OPTIONS: [&str; 9] = [
     "weights", "unit", "agents", "epoch", "run", "slot-ms", "classes", "fold", "policy",
 ];
 
-/// What the words give each argument. `Usage` comes where a word is refused, an argument is used twice, or COMMAND or FIRST is missing.
+/// What the words give each argument. `Usage` comes where a word is refused, an argument is used twice, or COMMAND or
+/// FIRST is missing.
 pub fn matches_of<'a>(alloc: Global, words: &'a [String]) -> Result<ArgMatches<'a>, WordsFault>
     ensures found { IfOk result (λ m. Finds (texts words.entry.now) (found_of m)) }
     ensures usage { result ≡ Err Usage → (us : List Use) → uses None 1 (drop 1 (texts words.entry.now)) ≡ Some us →

@@ -56,7 +56,8 @@ pub(crate) fn seed_of(text: &str) -> Option<u64>
     text.parse::<u64>().ok()
 }
 
-/// The number that an option is given, which is one or more decimal digits and from 1 to `most`, or its default where the option is not used. `None` for another text.
+/// The number that an option is given, which is one or more decimal digits and from 1 to `most`, or its default where
+/// the option is not used. `None` for another text.
 pub fn setting_of(text: Option<&str>, most: u64, default: u64) -> Option<u64>
     requires { most < 2 ^ 64 - 1 }
     ensures some { IfSome result (IsSetting most default (option_map (λ s. s.now) text.entry)) }
@@ -74,7 +75,8 @@ pub fn setting_of(text: Option<&str>, most: u64, default: u64) -> Option<u64>
     Some(number)
 }
 
-/// The size of a unit that an option is given in megabytes, or one megabyte where the option is not used. `None` for another text.
+/// The size of a unit that an option is given in megabytes, or one megabyte where the option is not used. `None` for
+/// another text.
 pub fn unit_of(text: Option<&str>) -> Option<UnitSize>
     ensures some { IfSome result (λ unit. IsSetting MAX_UNIT 1 (option_map (λ s. s.now) text.entry) unit.megabytes) }
     ensures none { IfNone result ((n : ℕ) → IsSetting MAX_UNIT 1 (option_map (λ s. s.now) text.entry) n → ⊥) }
@@ -83,7 +85,8 @@ pub fn unit_of(text: Option<&str>) -> Option<UnitSize>
     Some(UnitSize { megabytes })
 }
 
-/// The way to fold that an option is given, `count` or `load`, or by count where the option is not used. `None` for another text.
+/// The way to fold that an option is given, `count` or `load`, or by count where the option is not used. `None` for
+/// another text.
 pub(crate) fn fold_of(text: Option<&str>) -> Option<Fold>
     ensures { result ≡ fold_of (option_map (λ s. s.now) text.entry) }
 {

@@ -45,7 +45,8 @@ pub fn attend_ports<W: Wire>(
     }
 }
 
-/// A new agent, which was shown all posts of the poster, tries the ports and comes back. Where there are no ports, none is made.
+/// A new agent, which was shown all posts of the poster, tries the ports and comes back. Where there are no ports, none
+/// is made.
 pub fn attend_here<W: Wire>(
     board: &PortBoard,
     poster: &mut Poster,

@@ -15,7 +15,8 @@ use outside::Wire;
 use port_board::PortBoard;
 use std::alloc::Global;
 
-/// The trays of a crew, the helpers at them, the stations, the wires of the ports, by number, and the wires that no port has.
+/// The trays of a crew, the helpers at them, the stations, the wires of the ports, by number, and the wires that no
+/// port has.
 pub struct Gathered<W: Wire> {
     pub trays: Vec<Tray<Part<W>>>,
     pub helpers: Vec<Helper<Part<W>>>,
@@ -24,7 +25,9 @@ pub struct Gathered<W: Wire> {
     pub far: Vec<W>,
 }
 
-/// Gathers a crew of so many agents, at most one for each port, and takes the wires: one for each port, by number, and then those that no port has. The caller is one of the agents, and each other has a tray, a helper and a station. None is want of memory, and leaves the wires as they were.
+/// Gathers a crew of so many agents, at most one for each port, and takes the wires: one for each port, by number, and
+/// then those that no port has. The caller is one of the agents, and each other has a tray, a helper and a station.
+/// None is want of memory, and leaves the wires as they were.
 pub fn gather<W: Wire>(
     alloc: Global,
     board: &PortBoard,
@@ -165,7 +168,8 @@ fn disperse<W: Wire>(all: Gathered<W>)
     far.destroy_empty();
 }
 
-/// Frees the stations of a crew and their trays, at which nothing is given any more. The wires of the ports go behind others.
+/// Frees the stations of a crew and their trays, at which nothing is given any more. The wires of the ports go behind
+/// others.
 pub fn retire<W: Wire>(
     trays: Vec<Tray<Part<W>>>,
     stations: Vec<Station<W>>,

@@ -1,4 +1,6 @@
-//! A crew: a driver, and helpers that live through many runs, each on a thread of its own. A run costs what it grants: the granted ports are cut into stretches of even length, and each stretch goes with its wires to one agent, which is new in each run. The driver moves one agent itself, and each helper one.
+//! A crew: a driver, and helpers that live through many runs, each on a thread of its own. A run costs what it grants:
+//! the granted ports are cut into stretches of even length, and each stretch goes with its wires to one agent, which is
+//! new in each run. The driver moves one agent itself, and each helper one.
 #![tactic(auto)]
 
 mod attending;

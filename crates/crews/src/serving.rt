@@ -19,15 +19,20 @@ use outside::Wire;
 use port_board::{PortBoard, Poster};
 use std::sync::Wait;
 
-/// Where the driver of a crew gives the parts of one helper: its end of the helper's tray, and a list for the outlets of a part, which is empty between runs.
+/// Where the driver of a crew gives the parts of one helper: its end of the helper's tray, and a list for the outlets
+/// of a part, which is empty between runs.
 pub struct Station<W: Wire> {
     pub giver: Giver<Part<W>>,
     pub outlets: Vec<Outlet<W>>,
 }
 
-/// Serves the granted ports of a run by a crew, each port once, and leaves the other ports alone. The ports are cut into stretches of even length, one for the caller and one for each station, from the last station on, as far as there are ports. A new agent for each stretch, which was shown all posts of the poster, tries its ports in their order, and comes back. No memory is taken.
+/// Serves the granted ports of a run by a crew, each port once, and leaves the other ports alone. The ports are cut
+/// into stretches of even length, one for the caller and one for each station, from the last station on, as far as
+/// there are ports. A new agent for each stretch, which was shown all posts of the poster, tries its ports in their
+/// order, and comes back. No memory is taken.
 ///
-/// The ports are distinct and of this board. There is a wire for each port of the board, by number, and each is in its place before and after. Each station has its tray at its place among the trays.
+/// The ports are distinct and of this board. There is a wire for each port of the board, by number, and each is in its
+/// place before and after. Each station has its tray at its place among the trays.
 pub fn serve_crew<R: Wait, W: Wire>(
     rt: &R,
     board: &PortBoard,

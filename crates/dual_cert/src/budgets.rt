@@ -11,8 +11,9 @@ use crate::fronts::{COFLOWS, load_in_front, places_of};
 use coflow_units::SCALE;
 use port_load::Loads;
 
-/// The least coflow that pays more than its budget of weight times 2^40, with one weight for each coflow of the loads. A coflow pays y times its load on
-/// the port at each place up to which it stands. Each y may be any number of 128 bits.
+/// The least coflow that pays more than its budget of weight times 2^40, with one weight for each coflow of the loads.
+/// A coflow pays y times its load on the port at each place up to which it stands. Each y may be any number of 128
+/// bits.
 pub fn infeasible(loads: &Loads, weights: &[u64], cert: &Cert) -> Option<u32>
     requires weights_len { length weights.now ≡ loads.now.coflows }
     requires certificate { IsCertificateOf loads.now (reverse cert.now) }
@@ -35,7 +36,8 @@ pub fn infeasible(loads: &Loads, weights: &[u64], cert: &Cert) -> Option<u32>
     None
 }
 
-/// What each coflow pays, by number: exact up to the greatest number of 128 bits, which stands for all that is above it.
+/// What each coflow pays, by number: exact up to the greatest number of 128 bits, which stands for all that is above
+/// it.
 pub fn payments(loads: &Loads, charges: &[Charge], places: &[usize]) -> [u128; COFLOWS]
     requires places { HasPlaces charges.now places.now }
     requires certificate { IsCertificateOf loads.now (all_entries charges.now) }

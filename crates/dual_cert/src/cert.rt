@@ -15,7 +15,8 @@ pub struct Charge {
     pub y: u128,
 }
 
-/// A certificate: coflows in order, with the port that each place charges and the price of a unit of load there, in parts of 2^40 of a weight of 1.
+/// A certificate: coflows in order, with the port that each place charges and the price of a unit of load there, in
+/// parts of 2^40 of a weight of 1.
 ///
 /// Contracts see a `Cert` as its list of entries from place 1 on; definitions on certificates take the reverse of it.
 #[derive(Drop)]
@@ -34,7 +35,8 @@ impl Model for Cert {
 }
 
 impl Cert {
-    /// The certificate of these places, from place 1 on. What a place tells of rest and load is not looked at. The error is want of memory.
+    /// The certificate of these places, from place 1 on. What a place tells of rest and load is not looked at. The
+    /// error is want of memory.
     pub fn of(alloc: Global, places: &[Place]) -> Result<Cert, NoMemory>
         ensures entries { IfOk result (λ cert. cert ≡ map entry_of places.now) }
         ensures from_last { IfOk result (λ cert. reverse cert ≡ map entry_of (reverse places.now)) }

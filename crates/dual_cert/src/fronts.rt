@@ -23,7 +23,8 @@ pub fn places_of(loads: &Loads, charges: &[Charge]) -> [usize; COFLOWS]
     places
 }
 
-/// The load of a coflow on the port of a place, where it is in the front of that place, and else 0. Places count from 0.
+/// The load of a coflow on the port of a place, where it is in the front of that place, and else 0. Places count from
+/// 0.
 pub fn load_in_front(
     loads: &Loads,
     charges: &[Charge],

@@ -13,7 +13,8 @@ ghost use Rattle.dual_cert.specs.OtherCertificate.{first_pays};
 
 /// Weak duality: no valid schedule, patient or not, costs less than the bound of a feasible certificate.
 ///
-/// Source: Mastrolilli, Queyranne, Schulz, Svensson and Uhan, "Minimizing the sum of weighted completion times in a concurrent open shop", Operations Research Letters 2010.
+/// Source: Mastrolilli, Queyranne, Schulz, Svensson and Uhan, "Minimizing the sum of weighted completion times in a
+/// concurrent open shop", Operations Research Letters 2010.
 pub fn dual_is_bound()
     ensures dual_value { (i : Instance) (entries : List Entry) (slots : List (List ℕ)) → IsCertificate i entries →
         IsFeasible i.flows i.weight entries → IsValid i.flows slots →
@@ -23,7 +24,8 @@ pub fn dual_is_bound()
         bound i.flows entries ≤ cost i.flows i.weight i.coflows slots }
 {}
 
-/// A feasible certificate need not be the ordering one. This one of two coflows with 3 units and 1 unit at a port says that each valid schedule costs at least 3.
+/// A feasible certificate need not be the ordering one. This one of two coflows with 3 units and 1 unit at a port says
+/// that each valid schedule costs at least 3.
 pub fn first_pays_bounds()
     ensures certificate { IsCertificate equal_weights first_pays }
     ensures feasible { IsFeasible equal_weights.flows equal_weights.weight first_pays }
@@ -32,10 +34,12 @@ pub fn first_pays_bounds()
         3 ≤ cost equal_weights.flows equal_weights.weight equal_weights.coflows slots }
 {}
 
-/// A valid schedule that is patient for the order of a feasible certificate, each of whose ports is a greatest one of its front, costs at most four times
-/// the bound and the slack, which is what rounding down leaves unspent. A feasible certificate that is not the ordering one may have a large slack.
+/// A valid schedule that is patient for the order of a feasible certificate, each of whose ports is a greatest one of
+/// its front, costs at most four times the bound and the slack, which is what rounding down leaves unspent. A feasible
+/// certificate that is not the ordering one may have a large slack.
 ///
-/// Source: the factor of four of Agarwal, Rajakrishnan, Narayan, Agarwal, Shmoys and Vahdat, "Sincronia: near-optimal network design for coflows", SIGCOMM 2018.
+/// Source: the factor of four of Agarwal, Rajakrishnan, Narayan, Agarwal, Shmoys and Vahdat, "Sincronia: near-optimal
+/// network design for coflows", SIGCOMM 2018.
 pub fn within_four()
     ensures dual_value { (i : Instance) (entries : List Entry) (slots : List (List ℕ)) → IsInstance i →
         IsCertificate i entries → IsFeasible i.flows i.weight entries → TakesGreatestPorts i.flows i.ports entries →
@@ -54,8 +58,8 @@ pub fn rest_is_exact()
         used flows entries c + rest flows weight entries c ≡ budget weight c }
 {}
 
-/// Where no port has more load than k, the dual value of a feasible certificate is at most 2 * k times the sum of the budgets,
-/// and what is unspent, times the loads, at most k times that sum.
+/// Where no port has more load than k, the dual value of a feasible certificate is at most 2 * k times the sum of the
+/// budgets, and what is unspent, times the loads, at most k times that sum.
 pub fn values_fit()
     ensures dual_value { (i : Instance) (entries : List Entry) (k : ℕ) → IsCertificate i entries →
         IsFeasible i.flows i.weight entries →
@@ -66,7 +70,8 @@ pub fn values_fit()
         unspent i.flows i.weight entries ≤ k * sum_by (budget i.weight) (front entries) }
 {}
 
-/// A certificate may be read from place 1 on, as a report lists the places: each sum over the list from the last place is the sum over the numbers of the places.
+/// A certificate may be read from place 1 on, as a report lists the places: each sum over the list from the last place
+/// is the sum over the numbers of the places.
 pub fn places_have_numbers()
     ensures used { (flows : List Flow) (places : List Entry) (c : ℕ) →
         used flows (reverse places) c ≡ used_by_number flows places c }
@@ -77,9 +82,9 @@ pub fn places_have_numbers()
     ensures order { (places : List Entry) → order_of (reverse places) ≡ map (λ (e : Entry). e.coflow) places }
 {}
 
-/// The slack of a certificate whose rests are below the loads, as the ordering certificate's are, comes from rounding alone.
-/// It is below `2 * sum(load * front load) / 2^40 + 1`; at most 2 for each coflow where no port has more than 2^20 units;
-/// and at most twice the sum of the front loads where no port has more than 2^40 units.
+/// The slack of a certificate whose rests are below the loads, as the ordering certificate's are, comes from rounding
+/// alone. It is below `2 * sum(load * front load) / 2^40 + 1`; at most 2 for each coflow where no port has more than
+/// 2^20 units; and at most twice the sum of the front loads where no port has more than 2^40 units.
 pub fn slack_is_small()
     ensures by_loads { (i : Instance) (entries : List Entry) →
         IsBelowLoads i.flows (rest i.flows i.weight entries) entries →

@@ -16,10 +16,12 @@ use crate::fronts::{load_in_front, places_of};
 use coflow_units::{MAX_COFLOWS, SCALE};
 use port_load::Loads;
 
-/// The lower bound that a feasible certificate proves on the cost of every schedule: half the sum over the places of y times the square of the load of the front on the
-/// port, together with the squares of its coflows' loads there, in parts of 2^40 and rounded up.
+/// The lower bound that a feasible certificate proves on the cost of every schedule: half the sum over the places of y
+/// times the square of the load of the front on the port, together with the squares of its coflows' loads there, in
+/// parts of 2^40 and rounded up.
 ///
-/// Source: Mastrolilli, Queyranne, Schulz, Svensson and Uhan, "Minimizing the sum of weighted completion times in a concurrent open shop", Operations Research Letters 2010.
+/// Source: Mastrolilli, Queyranne, Schulz, Svensson and Uhan, "Minimizing the sum of weighted completion times in a
+/// concurrent open shop", Operations Research Letters 2010.
 pub fn bound(loads: &Loads, cert: &Cert) -> u128
     requires totals_fit { (port : Port) → port.number < loads.now.ports → total_at loads.now port ≤ MAX_UNITS }
     requires certificate { IsCertificateOf loads.now (reverse cert.now) }
@@ -39,7 +41,8 @@ pub fn bound(loads: &Loads, cert: &Cert) -> u128
     value.div_ceil(2 * SCALE)
 }
 
-/// What the factor of four lacks at most: twice the sum over the places of what the coflow keeps of its budget times the load of the front on the port, in parts of 2^40 and rounded up.
+/// What the factor of four lacks at most: twice the sum over the places of what the coflow keeps of its budget times
+/// the load of the front on the port, in parts of 2^40 and rounded up.
 pub fn slack(loads: &Loads, weights: &[u64], cert: &Cert) -> u128
     requires weights_len { length weights.now ≡ loads.now.coflows }
     requires weights_fit { All (λ w. w ≤ MAX_WEIGHT) weights.now }
@@ -85,7 +88,8 @@ pub fn total(loads: &Loads, charges: &[Charge], places: &[usize], place: usize) 
     total
 }
 
-/// The square of the load of a place's port over its front, and the squares of its coflows' loads there. Places count from 0.
+/// The square of the load of a place's port over its front, and the squares of its coflows' loads there. Places count
+/// from 0.
 pub fn squares(loads: &Loads, charges: &[Charge], places: &[usize], place: usize) -> u128
     requires places { HasPlaces charges.now places.now }
     requires totals_fit { (port : Port) → port.number < loads.now.ports → total_at loads.now port ≤ MAX_UNITS }

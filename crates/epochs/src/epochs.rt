@@ -10,8 +10,8 @@ use coflow_units::{MAX_PUBLISHINGS, NoMemory};
 use std::alloc::Global;
 use std::marker::Model;
 
-/// Which coflows joined and left, and when an order was published last. It decides what an online run does next, and does
-/// none of it.
+/// Which coflows joined and left, and when an order was published last. It decides what an online run does next, and
+/// does none of it.
 ///
 /// Contracts see an `Epochs` as its `Course`.
 #[derive(Drop)]
@@ -150,8 +150,8 @@ impl Epochs {
         }
     }
 
-    /// What is done where nobody owes anything and everybody who arrived has joined: the run waits for the next arrival,
-    /// or ends.
+    /// What is done where nobody owes anything and everybody who arrived has joined: the run waits for the next
+    /// arrival, or ends.
     fn idle_action(&self, time: u64) -> Action
         requires joined { HaveJoined self.now time }
         ensures { IsIdleAction self.now time result }

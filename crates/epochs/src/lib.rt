@@ -1,5 +1,5 @@
-//! What coflows owe under arrivals, and what is done next: who joins or leaves, when an order is published, and for how long
-//! units may be served.
+//! What coflows owe under arrivals, and what is done next: who joins or leaves, when an order is published, and for how
+//! long units may be served.
 #![tactic(auto)]
 
 mod action;

@@ -1,5 +1,6 @@
 //! What an errand is.
-/// A value with which a helper is to do something. It has no calls: contracts see what may be given, and what is made of it.
+/// A value with which a helper is to do something. It has no calls: contracts see what may be given, and what is made
+/// of it.
 pub trait Errand {
     /// What givers and helpers know from the start.
     type About;

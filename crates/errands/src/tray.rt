@@ -237,7 +237,8 @@ impl<T: Errand> Tray<T> {
         Some(steps.exchange(&mut helper.place, SLOT, None).unwrap())
     }
 
-    /// Waits until something is given, and takes it. None ends the wait: the end that gives has said that nothing is given any more, which no clause tells.
+    /// Waits until something is given, and takes it. None ends the wait: the end that gives has said that nothing is
+    /// given any more, which no clause tells.
     pub fn next<R: Wait>(&self, rt: &R, helper: &mut Helper<T>) -> Option<T>
         requires own { helper.old.at ≡ self.now.id }
         requires free { helper.old.out ≡ None }

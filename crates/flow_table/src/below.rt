@@ -5,7 +5,8 @@ ghost use Rattle.flow_table.specs.Spots.{IsAscending, pairs};
 
 use crate::spots::Spot;
 
-/// For each of the rests, how many of the places come below it, in all. Both ascend. It takes as many searches as the shorter list has elements.
+/// For each of the rests, how many of the places come below it, in all. Both ascend. It takes as many searches as the
+/// shorter list has elements.
 pub(crate) fn pairs_below(places: &[Spot], rests: &[Spot]) -> u64
     requires few_places { length places.now ≤ MAX_MAPPERS }
     requires few_rests { length rests.now ≤ MAX_MAPPERS }

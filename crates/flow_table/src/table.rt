@@ -20,8 +20,8 @@ use std::marker::Model;
 
 /// The flows of a trace, by number, with the ids and the arrivals of its coflows.
 ///
-/// A coflow has its place among the lines of the trace as its number, from 0. A flow has its place in the order of coflow, ingress and egress.
-/// Contracts see a `Table` as its flows, starts, ports, ids and arrivals.
+/// A coflow has its place among the lines of the trace as its number, from 0. A flow has its place in the order of
+/// coflow, ingress and egress. Contracts see a `Table` as its flows, starts, ports, ids and arrivals.
 #[derive(Drop)]
 pub struct Table {
     flows: Vec<Flow>,
@@ -56,14 +56,15 @@ impl Model for Table {
 impl Table {
     /// The table of a trace that is within the limits of a trace, where a unit has `unit` megabytes, from 1 to 2^20.
     ///
-    /// A reducer of `m` megabytes has `m / unit` units, rounded up. Each of the `M` mappers of its coflow sends it the quotient of its units by `M`,
-    /// and the first ones in the line send one more for each unit that is left. A location that stands again among the mappers sends again.
-    /// All that a coflow sends from one location to another is one flow; where it sends nothing there is none. A side has one port more than the
-    /// trace names, because locations count from 0 to that number.
+    /// A reducer of `m` megabytes has `m / unit` units, rounded up. Each of the `M` mappers of its coflow sends it the
+    /// quotient of its units by `M`, and the first ones in the line send one more for each unit that is left. A
+    /// location that stands again among the mappers sends again. All that a coflow sends from one location to another
+    /// is one flow; where it sends nothing there is none. A side has one port more than the trace names, because
+    /// locations count from 0 to that number.
     ///
-    /// `Limit` of `Units` comes exactly where the units of all reducers are more than 2^40, with their sum, or 2^64 - 1 where that is greater.
-    /// `Limit` of `Flows` comes exactly where they are not and there are more than 2^20 flows, with the count 1048577.
-    /// `NoMemory` may come in place of any answer.
+    /// `Limit` of `Units` comes exactly where the units of all reducers are more than 2^40, with their sum, or 2^64 - 1
+    /// where that is greater. `Limit` of `Flows` comes exactly where they are not and there are more than 2^20 flows,
+    /// with the count 1048577. `NoMemory` may come in place of any answer.
     pub fn build(alloc: Global, trace: &Trace, unit: u64) -> Result<Table, TableFault>
         requires trace { IsTrace trace.now }
         requires some { 1 ≤ unit }

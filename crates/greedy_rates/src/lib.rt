@@ -1,4 +1,5 @@
-//! The grants of one slot: which flows are served, in the order of a line of coflows, and for how many slots they can stay so.
+//! The grants of one slot: which flows are served, in the order of a line of coflows, and for how many slots they can
+//! stay so.
 #![tactic(auto)]
 
 mod owed_pass;

@@ -20,8 +20,8 @@ struct OpenPorts {
     egress: usize,
 }
 
-/// Grants anew, as a look at each flow of the line would. A coflow or a group that owes nothing, and a group whose ingress has a flow, are passed over, and the
-/// pass ends where no port of a side is open.
+/// Grants anew, as a look at each flow of the line would. A coflow or a group that owes nothing, and a group whose
+/// ingress has a flow, are passed over, and the pass ends where no port of a side is open.
 pub fn grant_owing_line(
     at: &mut [Option<u32>],
     busy: &mut [bool],

@@ -8,9 +8,10 @@ use coflow_units::{Flow, NoMemory};
 use std::alloc::Global;
 use std::marker::Model;
 
-/// The units that each flow has left, and their sums: over the flows of each coflow, over the flows that begin at each ingress, over the flows that end at each egress,
-/// and over the flows of each group. A group is flows of one coflow that begin at one ingress and stand one behind another.
-/// With these sums a pass over the flows leaves out what owes nothing without looking at it.
+/// The units that each flow has left, and their sums: over the flows of each coflow, over the flows that begin at each
+/// ingress, over the flows that end at each egress, and over the flows of each group. A group is flows of one coflow
+/// that begin at one ingress and stand one behind another. With these sums a pass over the flows leaves out what owes
+/// nothing without looking at it.
 ///
 /// Contracts see an `Owing` as the lists of these numbers. That they are those of certain flows is told apart.
 #[derive(Drop)]
@@ -45,8 +46,8 @@ impl Model for Owing {
 }
 
 impl Owing {
-    /// Every flow owes all its units. Numbers of coflows are below `coflows`, and ports of a side below `ports`. The flows are fewer than 2^32 and have at most 2^62 units
-    /// together. The error is want of memory.
+    /// Every flow owes all its units. Numbers of coflows are below `coflows`, and ports of a side below `ports`. The
+    /// flows are fewer than 2^32 and have at most 2^62 units together. The error is want of memory.
     pub fn of(alloc: Global, flows: &[Flow], coflows: u32, ports: u32) -> Result<Owing, NoMemory>
         requires coflow_in_range { All (λ (x : Flow). x.coflow < coflows) flows.now }
         requires ingress_in_range { All (λ (x : Flow). x.ingress < ports) flows.now }

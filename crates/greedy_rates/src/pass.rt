@@ -18,7 +18,8 @@ pub struct Granted {
     pub length: u64,
 }
 
-/// Grants anew: afterwards `at` has for each ingress the granted flow, and `busy` marks the egress ports of granted flows.
+/// Grants anew: afterwards `at` has for each ingress the granted flow, and `busy` marks the egress ports of granted
+/// flows.
 pub fn grant_line(
     at: &mut [Option<u32>],
     busy: &mut [bool],
@@ -91,7 +92,8 @@ fn grant_coflow(
     }
 }
 
-/// Writes the flows that stand at an ingress to the front of `listed`, ascending, and tells how many they are and the least units left among them.
+/// Writes the flows that stand at an ingress to the front of `listed`, ascending, and tells how many they are and the
+/// least units left among them.
 pub fn tell_granted(at: &[Option<u32>], listed: &mut [u32], left: &[u64]) -> Granted
     requires room { length listed.old ≡ length at.now }
     requires ports { length at.now < 2 ^ 32 }

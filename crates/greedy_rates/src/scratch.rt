@@ -17,7 +17,8 @@ use std::marker::Model;
 
 /// The room for the grants of a slot, and the flows that were granted last.
 ///
-/// Contracts see a `Scratch` as its number of ports on each side, the granted flows, and for each ingress the flow that stands at it.
+/// Contracts see a `Scratch` as its number of ports on each side, the granted flows, and for each ingress the flow that
+/// stands at it.
 #[derive(Drop)]
 pub struct Scratch {
     /// The granted flows, ascending, in the first `count` places.
@@ -69,7 +70,8 @@ impl Scratch {
         &self.listed[..self.count as usize]
     }
 
-    /// The flow that was granted last at an ingress. None comes exactly where the ingress has no grant, or is none of the fabric's.
+    /// The flow that was granted last at an ingress. None comes exactly where the ingress has no grant, or is none of
+    /// the fabric's.
     pub fn at(&self, ingress: u32) -> Option<u32>
         ensures { result ≡ flow_at_ingress self.now.at ingress }
     {
@@ -80,12 +82,13 @@ impl Scratch {
     }
 }
 
-/// Grants the flows of a slot: coflow by coflow in the order of `line`, and within a coflow by number, each flow that has units left and finds both of its ports free.
-/// This is the greedy allocation of Sincronia (Agarwal, Rajakrishnan, Narayan, Agarwal, Shmoys and Vahdat, "Sincronia: near-optimal network design
-/// for coflows", SIGCOMM 2018). The granted flows may be served so until the first of them has no units left.
+/// Grants the flows of a slot: coflow by coflow in the order of `line`, and within a coflow by number, each flow that
+/// has units left and finds both of its ports free. This is the greedy allocation of Sincronia (Agarwal, Rajakrishnan,
+/// Narayan, Agarwal, Shmoys and Vahdat, "Sincronia: near-optimal network design for coflows", SIGCOMM 2018). The
+/// granted flows may be served so until the first of them has no units left.
 ///
-/// `starts` has for each coflow the number of its first flow, and the number of flows at its end. `left` has the units left of each flow.
-/// A coflow that `line` leaves out has no grant.
+/// `starts` has for each coflow the number of its first flow, and the number of flows at its end. `left` has the units
+/// left of each flow. A coflow that `line` leaves out has no grant.
 pub fn grants(
     scratch: &mut Scratch,
     flows: &[Flow],
@@ -118,8 +121,9 @@ pub fn grants(
     granted
 }
 
-/// The same as `grants` for the units left that `owing` has, with the sums that it keeps: coflows and groups of flows that owe nothing are passed over, a
-/// group whose ingress is taken too, and the pass ends where no free ingress, or no free egress, owes.
+/// The same as `grants` for the units left that `owing` has, with the sums that it keeps: coflows and groups of flows
+/// that owe nothing are passed over, a group whose ingress is taken too, and the pass ends where no free ingress, or no
+/// free egress, owes.
 pub fn grants_owed(
     scratch: &mut Scratch,
     flows: &[Flow],

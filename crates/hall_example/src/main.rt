@@ -45,7 +45,8 @@ fn two_coflows(alloc: Global) -> Result<Table>
     Ok(table)
 }
 
-/// A hall of a table's coflows, each of weight 1, its driver, and the sessions of two clients. The error is want of memory.
+/// A hall of a table's coflows, each of weight 1, its driver, and the sessions of two clients. The error is want of
+/// memory.
 fn opened(alloc: Global, table: Table) -> Result<(Hall, Driver, Vec<Session>), NoMemory>
     ensures table { IfOk result (λ made. made.0.setting.opening.table ≡ table) }
     ensures driver { IfOk result (λ made. IsDriverOf made.0 made.1 × (made.1.journal ≡ [])) }

@@ -18,7 +18,8 @@ use std::alloc::Global;
 use std::sync::Wait;
 use std::thread::Threads;
 
-/// The runner gets a crew of so many agents, which takes the wires, and serves an online run to its end. After a wire fault no further run is opened. The wires come back in their order.
+/// The runner gets a crew of so many agents, which takes the wires, and serves an online run to its end. After a wire
+/// fault no further run is opened. The wires come back in their order.
 pub(crate) fn serve_by_camp<R: Threads + Wait + Sync, W: Wire + Send>(
     alloc: Global,
     rt: &R,

@@ -97,8 +97,8 @@ fn serve_all<R: Wait, W: Wire>(
     served
 }
 
-/// The same by a crew in its camp: each helper attends on a thread of its own. The driver's closure stands second: it runs first where no thread is to be had, attends
-/// every part itself, and lets the helpers go before they come.
+/// The same by a crew in its camp: each helper attends on a thread of its own. The driver's closure stands second: it
+/// runs first where no thread is to be had, attends every part itself, and lets the helpers go before they come.
 pub(crate) fn serve_camp<'a, R: Threads + Wait + Sync, W: Wire + Send>(
     alloc: Global,
     rt: &'a R,

@@ -17,14 +17,17 @@ use std::alloc::Global;
 use std::sync::Wait;
 use std::thread::Threads;
 
-/// The text of the online run of the coflows of a table, whose units were sent. A slot takes `slot_ms` milliseconds, at least one, and a coflow joins at the first slot's end that comes at its
-/// arrival or next after it. An epoch has `every` slots, from 1 to 2^40. There is one weight for each coflow, from 1 to 2^32. So many agents beside each other, at most one a port and started once
-/// for all runs, send the units, each on the wire of its ingress port; further wires are left alone. While it runs the agents have the wires, and at every answer the vector has them again, in their
-/// order. The text is the same for any number of agents.
+/// The text of the online run of the coflows of a table, whose units were sent. A slot takes `slot_ms` milliseconds, at
+/// least one, and a coflow joins at the first slot's end that comes at its arrival or next after it. An epoch has
+/// `every` slots, from 1 to 2^40. There is one weight for each coflow, from 1 to 2^32. So many agents beside each
+/// other, at most one a port and started once for all runs, send the units, each on the wire of its ingress port;
+/// further wires are left alone. While it runs the agents have the wires, and at every answer the vector has them
+/// again, in their order. The text is the same for any number of agents.
 ///
-/// `WireFault` comes only where the count of that port's wire rose in this call. It is the least port at which a unit of the last run is missing, and no further
-/// run is opened after it. `TooMany` comes only where more than 8192 orders would be published.
-/// `NoMemory` is want of memory. At every answer what was sent are units of the one online run, none twice and none in a slot at or before its coflow's arrival; where there is a text, all of them.
+/// `WireFault` comes only where the count of that port's wire rose in this call. It is the least port at which a unit
+/// of the last run is missing, and no further run is opened after it. `TooMany` comes only where more than 8192 orders
+/// would be published. `NoMemory` is want of memory. At every answer what was sent are units of the one online run,
+/// none twice and none in a slot at or before its coflow's arrival; where there is a text, all of them.
 pub fn served_online<R: Threads + Wait + Sync, W: Wire + Send>(
     alloc: Global,
     rt: &R,

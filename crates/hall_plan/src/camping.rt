@@ -19,8 +19,9 @@ use std::alloc::Global;
 use std::sync::Wait;
 use std::thread::Threads;
 
-/// The runner gets a crew of so many agents, which takes the wires, and runs until nothing is left, each run as long as it may be. It answers the schedule of the runs. After a wire fault no
-/// further run is opened. The wires come back in their order.
+/// The runner gets a crew of so many agents, which takes the wires, and runs until nothing is left, each run as long as
+/// it may be. It answers the schedule of the runs. After a wire fault no further run is opened. The wires come back in
+/// their order.
 pub(crate) fn serve_by_camp<R: Threads + Wait + Sync, W: Wire + Send>(
     alloc: Global,
     rt: &R,

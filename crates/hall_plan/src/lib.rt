@@ -1,4 +1,5 @@
-//! A plan served by a hall: one driver registers all coflows, publishes their order once, and runs until nothing is left.
+//! A plan served by a hall: one driver registers all coflows, publishes their order once, and runs until nothing is
+//! left.
 #![tactic(auto)]
 
 mod answer;

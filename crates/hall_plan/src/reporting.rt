@@ -21,15 +21,16 @@ use std::alloc::Global;
 use std::sync::Wait;
 use std::thread::Threads;
 
-/// The report of the plan of the coflows of a table, whose units were sent: a hall registers all coflows in number order, publishes
-/// their order once, and runs until nothing is left. So many agents beside each other, at most one a port and started once
-/// for all runs, send the units, each on the wire of its ingress port; further wires are left alone. While it runs the agents
-/// have the wires, and at every answer the vector has them again, in their order. The report is the same for any number of agents. A text can have it, so
-/// it may be written and read back. `weights` has the weight of each coflow, from 1 to 2^32.
+/// The report of the plan of the coflows of a table, whose units were sent: a hall registers all coflows in number
+/// order, publishes their order once, and runs until nothing is left. So many agents beside each other, at most one a
+/// port and started once for all runs, send the units, each on the wire of its ingress port; further wires are left
+/// alone. While it runs the agents have the wires, and at every answer the vector has them again, in their order. The
+/// report is the same for any number of agents. A text can have it, so it may be written and read back. `weights` has
+/// the weight of each coflow, from 1 to 2^32.
 ///
-/// `WireFault` comes only where the count of that port's wire rose in this call. It is the least port at which a unit of
-/// the last run is missing, and no further run is opened after it. `NoMemory` is want of memory. At every answer what was
-/// sent are units of the plan's schedule, none twice, and where there is a report all of them.
+/// `WireFault` comes only where the count of that port's wire rose in this call. It is the least port at which a unit
+/// of the last run is missing, and no further run is opened after it. `NoMemory` is want of memory. At every answer
+/// what was sent are units of the plan's schedule, none twice, and where there is a report all of them.
 pub fn served_plan<R: Threads + Wait + Sync, W: Wire + Send>(
     alloc: Global,
     rt: &R,

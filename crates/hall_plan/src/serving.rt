@@ -25,7 +25,8 @@ use std::alloc::Global;
 use std::sync::Wait;
 use std::thread::{Threads, join_mut};
 
-/// Runs until nothing is left, each run as long as it may be, and answers the schedule of the runs. After a wire fault no further run is opened.
+/// Runs until nothing is left, each run as long as it may be, and answers the schedule of the runs. After a wire fault
+/// no further run is opened.
 fn serve<R: Wait, W: Wire>(
     alloc: Global,
     rt: &R,
@@ -87,8 +88,8 @@ pub(crate) fn serve_all<R: Wait, W: Wire>(
     served
 }
 
-/// The same by a crew in its camp: each helper attends on a thread of its own. The driver's closure stands second: it runs first where no thread is to be had, attends
-/// every part itself, and lets the helpers go before they come.
+/// The same by a crew in its camp: each helper attends on a thread of its own. The driver's closure stands second: it
+/// runs first where no thread is to be had, attends every part itself, and lets the helpers go before they come.
 pub(crate) fn serve_camp<'a, R: Threads + Wait + Sync, W: Wire + Send>(
     alloc: Global,
     rt: &'a R,

@@ -2,7 +2,8 @@
 ghost use Rattle.std.specs.Prelude.{◌≡◌, ℕ, ◌+◌, ◌*◌, ◌^◌, ◌<◌, ◌≤◌};
 ghost use Rattle.hall_runs.specs.Asked.{IsAskOf, IsOrderOf};
 
-/// A generator of drawn numbers: the linear congruential one of Knuth's MMIX (The Art of Computer Programming, volume 2, section 3.3.4).
+/// A generator of drawn numbers: the linear congruential one of Knuth's MMIX (The Art of Computer Programming, volume
+/// 2, section 3.3.4).
 #[derive(Clone, Copy, Debug)]
 pub struct Draw {
     state: u64,

@@ -1,8 +1,11 @@
-//! Plays a hall: eight callers, the driver and seven clients, ask drawn commands, each on a thread of its own. Then the hall is closed.
-//! Its arguments are the file of a trace, whose units are megabytes, a seed, and how many commands each caller asks.
+//! Plays a hall: eight callers, the driver and seven clients, ask drawn commands, each on a thread of its own. Then the
+//! hall is closed. Its arguments are the file of a trace, whose units are megabytes, a seed, and how many commands each
+//! caller asks.
 //!
-//! It prints how many commands were asked and how many entries the closed journal has. With a further word `tell` it prints instead what each caller was told, in the order of its calls, and
-//! the journal. With `time` it prints how many nanoseconds the callers took, and with `mutex` how many they take where a mutex stands round a master in place of the hall.
+//! It prints how many commands were asked and how many entries the closed journal has. With a further word `tell` it
+//! prints instead what each caller was told, in the order of its calls, and the journal. With `time` it prints how many
+//! nanoseconds the callers took, and with `mutex` how many they take where a mutex stands round a master in place of
+//! the hall.
 //!
 //! The exit code is 0 where the hall was closed, and 1 where something was wanting.
 #![tactic(auto)]

@@ -22,7 +22,8 @@ use std::sync::Wait;
 use std::thread::{Threads, join_mut};
 use std::time::{Duration, Instant};
 
-/// Plays what the words ask for: `hall_runs TRACE SEED COMMANDS`, and then `tell`, `time` or `mutex`, or no more. The trace stands on the shelf.
+/// Plays what the words ask for: `hall_runs TRACE SEED COMMANDS`, and then `tell`, `time` or `mutex`, or no more. The
+/// trace stands on the shelf.
 pub fn play_words<R: Runtime + Threads + Wait + Sync, H: Shelf>(
     rt: &R,
     alloc: Global,
@@ -100,7 +101,8 @@ fn host<R: Runtime + Threads + Wait + Sync>(
     told
 }
 
-/// The driver and the clients ask their commands, and what they were told is printed where the mode asks for it. It answers how long the asking took.
+/// The driver and the clients ask their commands, and what they were told is printed where the mode asks for it. It
+/// answers how long the asking took.
 fn asked<R: Runtime + Threads + Wait + Sync>(
     rt: &R,
     hall: &Hall,

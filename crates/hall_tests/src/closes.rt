@@ -121,7 +121,8 @@ fn entries_of(rt: &impl Abort, alloc: Global, small: SmallHall) -> usize
     entries
 }
 
-/// Closes a hall of two sessions, of which the last one takes its turn, and is kept back at first: how many entries the journal has.
+/// Closes a hall of two sessions, of which the last one takes its turn, and is kept back at first: how many entries the
+/// journal has.
 fn closed_later<R: Wait + Abort>(rt: &R, alloc: Global, small: SmallHall, last: Session) -> usize
     requires driver { IsDriverOf small.hall small.driver }
     requires sessions { All (IsSessionOf small.hall) small.sessions.items }

@@ -1,6 +1,6 @@
-//! Tests of turns, ranks, posts, agents and halls: calls in a known order, closes, and threads that overlap. Clauses say what
-//! each call may answer; here is that they answer what was worked out by hand, and that what threads were told is true of the
-//! closed journal.
+//! Tests of turns, ranks, posts, agents and halls: calls in a known order, closes, and threads that overlap. Clauses
+//! say what each call may answer; here is that they answer what was worked out by hand, and that what threads were told
+//! is true of the closed journal.
 #![tactic(auto)]
 
 #[cfg(test)]

@@ -27,7 +27,8 @@ fn tell_one(who: u32, receipts: &[Receipt], told: &mut Vec<Told>) -> Result<(), 
     Ok(())
 }
 
-/// Adds the entries of so many sessions in a journal, one session after another: what the sessions should have been told. The error is want of memory.
+/// Adds the entries of so many sessions in a journal, one session after another: what the sessions should have been
+/// told. The error is want of memory.
 pub fn tell_entries(
     journal: &[Entry],
     sessions: u32,

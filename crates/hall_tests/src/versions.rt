@@ -7,7 +7,8 @@ use master_core::{Entry, Master, Reply};
 use std::alloc::Global;
 use test_support::{let_master_go, master_of_two};
 
-/// A pull without a turn: the version and the rank that were answered, and how many receipts the caller had then. The rank is 0 where the coflow had none.
+/// A pull without a turn: the version and the rank that were answered, and how many receipts the caller had then. The
+/// rank is 0 where the coflow had none.
 #[derive(Clone, Copy)]
 pub struct Note {
     pub who: u32,
@@ -83,8 +84,8 @@ fn rank_at(ranks: &[u32], coflow: usize) -> u32 {
     }
 }
 
-/// Whether what was noted is true in a journal of these versions: the rank is the coflow's in the version, which is not below that of an earlier receipt of the caller, and was made before each later
-/// one.
+/// Whether what was noted is true in a journal of these versions: the rank is the coflow's in the version, which is not
+/// below that of an earlier receipt of the caller, and was made before each later one.
 pub fn is_true(note: &Note, versions: &[Version], told: &[Told]) -> bool {
     let Some(version) = versions.get(note.version as usize) else {
         return false;

@@ -16,7 +16,8 @@ use std::rt::Runtime;
 use std::sync::Wait;
 use std::thread::Threads;
 
-/// Carries out the command of a row with these words, the program's name first, and prints what comes of it. With the row stands the number of its line, which is printed too.
+/// Carries out the command of a row with these words, the program's name first, and prints what comes of it. With the
+/// row stands the number of its line, which is printed too.
 ///
 /// The error is want of memory, or that nothing more is printed.
 pub fn carry_job<R: Runtime + Threads + Wait + Sync>(

@@ -42,7 +42,8 @@ impl Gate for MeetingGate<'_> {
     }
 }
 
-/// A gate for each client that a script may have. Those of the first two may wait for others at a line. None was passed yet. None as an answer means that memory was wanting.
+/// A gate for each client that a script may have. Those of the first two may wait for others at a line. None was passed
+/// yet. None as an answer means that memory was wanting.
 pub fn gates_meeting<'a>(
     alloc: Global,
     sides: [Option<(u32, Side<'a>)>; 2],

@@ -20,7 +20,8 @@ pub struct Given<'a> {
     pub piece: usize,
     /// The call of the shelf that fails, counted from 1; 0 is no call's.
     pub failing_call: u32,
-    /// How many bytes the sink takes until it fails. It has room for 4096, and without a number it fails where they are full.
+    /// How many bytes the sink takes until it fails. It has room for 4096, and without a number it fails where they are
+    /// full.
     pub fail_after: Option<u64>,
 }
 

@@ -1,11 +1,16 @@
-//! Carries out commands by the library's one call, over files, a sink, wires and gates in memory, row by row, and prints what comes of each. Its argument is the file of the rows.
+//! Carries out commands by the library's one call, over files, a sink, wires and gates in memory, row by row, and
+//! prints what comes of each. Its argument is the file of the rows.
 //!
-//! The first line of the file names the columns, which stand in each line below: the file of the trace, which is `t` to the command, and the one beside it, which is `s`; how many bytes a read
-//! gives at most, and which call for a file fails, counted from 1; how many bytes the sink takes, where that is a number; which unit the wires of ports 0 and 1 do not accept, counted from 1;
-//! who waits for one another, with two numbers of lines; which rankers are on the bench; whether the text and the wires are told; and the words of the command.
+//! The first line of the file names the columns, which stand in each line below: the file of the trace, which is `t` to
+//! the command, and the one beside it, which is `s`; how many bytes a read gives at most, and which call for a file
+//! fails, counted from 1; how many bytes the sink takes, where that is a number; which unit the wires of ports 0 and 1
+//! do not accept, counted from 1; who waits for one another, with two numbers of lines; which rankers are on the bench;
+//! whether the text and the wires are told; and the words of the command.
 //!
-//! For each row it prints the number of its line and the status, the text that the sink took and what each wire accepted, where these are told, whether the gates of the first two clients were passed where they wait and met
-//! the other one there, whether a wire gave up, and how many rankers are left on the bench. Then it plans two traces on a shelf that never fails, one of them with a byte more than a text may have.
+//! For each row it prints the number of its line and the status, the text that the sink took and what each wire
+//! accepted, where these are told, whether the gates of the first two clients were passed where they wait and met the
+//! other one there, whether a wire gave up, and how many rankers are left on the bench. Then it plans two traces on a
+//! shelf that never fails, one of them with a byte more than a text may have.
 //!
 //! The exit code is 0 where all rows were carried out, and 1 where a row is not such, or something else was wanting.
 #![tactic(auto)]

@@ -15,7 +15,8 @@ pub struct Stage<'a> {
     pub gates: Vec<MeetingGate<'a>>,
 }
 
-/// The wires and the gates of a row, of whom those wait for one another that the row names. None means that memory was wanting.
+/// The wires and the gates of a row, of whom those wait for one another that the row names. None means that memory was
+/// wanting.
 pub fn stage_of<'a>(alloc: Global, row: Row<'_>, pair: &'a Pair) -> Option<Stage<'a>>
     ensures wires { IfSome result (λ stage. length stage.wires.items ≡ MAX_PORTS + 1) }
     ensures gates { IfSome result (λ stage. length stage.gates.items ≡ MAX_CLIENTS) }

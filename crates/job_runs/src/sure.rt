@@ -36,7 +36,8 @@ pub struct SureEnd {
     pub written: u64,
 }
 
-/// How a plan ends of a trace of these bytes, which lies on a shelf that never fails, and whose text goes to a sink that never fails.
+/// How a plan ends of a trace of these bytes, which lies on a shelf that never fails, and whose text goes to a sink
+/// that never fails.
 ///
 /// The error is want of memory.
 pub fn sure_plan<R: Threads + Wait + Sync>(

@@ -7,7 +7,8 @@ use command_files::Status;
 use outside::MemWire;
 use std::{io, str};
 
-/// Prints what came of the command of a row, which stands in the line of this number: the status, and, where they are told, the text and what the wires accepted; then who met whom.
+/// Prints what came of the command of a row, which stands in the line of this number: the status, and, where they are
+/// told, the text and what the wires accepted; then who met whom.
 pub fn tell(
     rt: &impl Print,
     line: u32,
@@ -52,7 +53,8 @@ fn tell_wire(rt: &impl Print, port: usize, wire: &MemWire) -> io::Result<()> {
     Ok(())
 }
 
-/// Prints for the first two clients whether the gate was passed where it waits, and met the other one there; and whether a wire gave up.
+/// Prints for the first two clients whether the gate was passed where it waits, and met the other one there; and
+/// whether a wire gave up.
 fn tell_meetings(
     rt: &impl Print,
     gates: &[MeetingGate<'_>],

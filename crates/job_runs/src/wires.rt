@@ -14,7 +14,8 @@ const PORTS: u32 = MAX_PORTS + 1;
 /// How many runs a wire has room for. One more is a fault.
 const ROOM: usize = 8;
 
-/// A wire in memory. It may wait for another one before each run that it is sent. Where that one does not come it gives up: it accepts nothing, which is a fault.
+/// A wire in memory. It may wait for another one before each run that it is sent. Where that one does not come it gives
+/// up: it accepts nothing, which is a fault.
 #[derive(Drop)]
 pub struct MeetingWire<'a> {
     wire: MemWire,
@@ -62,8 +63,9 @@ impl Wire for MeetingWire<'_> {
     }
 }
 
-/// A wire for each ingress port, from 0 on, of which the first two do not accept the units with these numbers, counted from 1 over all units sent there; 0 is no unit's. Those of even
-/// and of odd ports may wait for others. None means that memory was wanting.
+/// A wire for each ingress port, from 0 on, of which the first two do not accept the units with these numbers, counted
+/// from 1 over all units sent there; 0 is no unit's. Those of even and of odd ports may wait for others. None means
+/// that memory was wanting.
 pub fn wires_meeting<'a>(
     alloc: Global,
     fail_at: [u64; 2],

@@ -7,8 +7,8 @@ pub enum Command {
     Register(u32),
     /// The coflow leaves.
     Withdraw(u32),
-    /// The coflows that are present are ordered anew: by bottleneck, select, scale, iterate over the units that they owe and their weights
-    /// (Sincronia: Agarwal, Rajakrishnan, Narayan, Agarwal, Shmoys and Vahdat, SIGCOMM 2018).
+    /// The coflows that are present are ordered anew: by bottleneck, select, scale, iterate over the units that they
+    /// owe and their weights (Sincronia: Agarwal, Rajakrishnan, Narayan, Agarwal, Shmoys and Vahdat, SIGCOMM 2018).
     Publish,
     /// Asks for the place of the coflow in the newest order.
     Pull(u32),

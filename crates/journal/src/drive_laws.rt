@@ -73,9 +73,9 @@ pub fn drivers_have_room()
         InRange o now → IsUnderWay o before now d → is_ending k ≡ true → is_full (reply_of o now k) ≡ false }
 {}
 
-/// The driver's own entries of a driven run are, in order, its opening, its notes and its closing, and where the run was
-/// sent whole the opening and the closing alone. In a legal journal each note is taken, and the closing tells the first
-/// slot of the run.
+/// The driver's own entries of a driven run are, in order, its opening, its notes and its closing, and where the run
+/// was sent whole the opening and the closing alone. In a legal journal each note is taken, and the closing tells the
+/// first slot of the run.
 pub fn driven_runs_have_own_entries()
     ensures entries { (o : Opening) (before after : List Entry) (d : Drive) → IsDriven o before after d →
         driver_entries after

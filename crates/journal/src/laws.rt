@@ -67,7 +67,8 @@ pub fn versions_stay()
         rank_of o (journal ++ more) v coflow ≡ rank_of o journal v coflow }
 {}
 
-/// The version that a publishing makes is the next one, and its order is that of the ordering certificate of what was left there.
+/// The version that a publishing makes is the next one, and its order is that of the ordering certificate of what was
+/// left there.
 pub fn publishing_makes_order()
     ensures number { (o : Opening) (journal : List Entry) (k : Command) (v : ℕ) → reply_of o journal k ≡ Version v →
         v ≡ version_of journal + 1 }
@@ -98,7 +99,8 @@ pub fn replies_are_determined()
     ensures { (o : Opening) (a b : List Entry) → IsLegal o a → IsLegal o b → map asked a ≡ map asked b → a ≡ b }
 {}
 
-/// In a legal journal whose commands are in range no flow is sent more units than it has, and an open run is in time and within what its flows owe.
+/// In a legal journal whose commands are in range no flow is sent more units than it has, and an open run is in time
+/// and within what its flows owe.
 pub fn legal_is_sound()
     ensures { (o : Opening) (journal : List Entry) → IsLegal o journal → InRange o journal →
         SoundState o (state_of o journal) }
@@ -120,8 +122,8 @@ pub fn weight_is_the_last()
         (state_of o journal).weight coflow ≡ slice_index_or o.weights coflow 0 }
 {}
 
-/// A pull tells the newest version, and the place in it or that there is none; and an open finds nothing left only where
-/// no present coflow owes a unit.
+/// A pull tells the newest version, and the place in it or that there is none; and an open finds nothing left only
+/// where no present coflow owes a unit.
 pub fn replies_tell()
     ensures pull { (o : Opening) (journal : List Entry) (c v r : ℕ) → reply_of o journal (Pull c) ≡ Rank v r →
         (v ≡ version_of journal) × (r ≡ rank_of o journal v c) }
@@ -140,7 +142,8 @@ pub fn nothing_is_owing()
         is_present (state_of o journal) (coflow_of o.table.flows f) ≡ true → owed o (state_of o journal) f ≡ 0) }
 {}
 
-/// The grants of a run that is opened are those of the line and of what is owed at its entry, and its length is the longest that they and the last slot allow.
+/// The grants of a run that is opened are those of the line and of what is owed at its entry, and its length is the
+/// longest that they and the last slot allow.
 pub fn opened_runs_have_grants()
     ensures run { (o : Opening) (journal : List Entry) (e : Entry) (slot slots count : ℕ) →
         e.reply ≡ Opened slot slots count →

@@ -1,4 +1,5 @@
-//! Journals of the one-thread master: commands, replies and entries, the state that a journal gives, the answers that it asks for, and the laws that hold of every legal journal.
+//! Journals of the one-thread master: commands, replies and entries, the state that a journal gives, the answers that
+//! it asks for, and the laws that hold of every legal journal.
 #![tactic(auto)]
 
 mod command;

@@ -56,8 +56,8 @@ pub fn runs_are_in_order()
 {}
 
 /// Each closed run, and the open one, was opened by an entry of the journal: it has the grants of its line and of what
-/// was owed there, began with the next slot, and is as long as was asked and allowed. Each has its own entry: those that
-/// open a run tell of these runs, in order, and of no others.
+/// was owed there, began with the next slot, and is as long as was asked and allowed. Each has its own entry: those
+/// that open a run tell of these runs, in order, and of no others.
 pub fn runs_were_opened()
     ensures closed { (o : Opening) (journal : List Entry) → IsLegal o journal →
         All (IsOpenedIn o journal) (closed_runs o journal) }
@@ -91,9 +91,9 @@ pub fn others_leave_runs()
         All (λ (e : Entry). is_driving e.command ≡ false) more → LeavesRuns o before (before ++ more) }
 {}
 
-/// No slot is passed without a skip or a run: from the furthest skip on each slot before the next one is of a closed run.
-/// So the next slot lies no further past that skip than the closed runs have slots, and, where nothing was noted, than
-/// units were sent.
+/// No slot is passed without a skip or a run: from the furthest skip on each slot before the next one is of a closed
+/// run. So the next slot lies no further past that skip than the closed runs have slots, and, where nothing was noted,
+/// than units were sent.
 pub fn next_slots_are_few()
     ensures passed { (o : Opening) (journal : List Entry) (slot : ℕ) → IsLegal o journal → InRange o journal →
         furthest_skip journal ≤ slot → slot < (state_of o journal).next →
@@ -178,8 +178,8 @@ pub fn closings_end_flows()
 {}
 
 /// The schedule of a journal is the one that a tally of its closed runs makes up to the next slot: a flow stands in so
-/// many slots of each run as the run credits units to it, from the run's first slot on. And what a wire was sent is what
-/// the runs of the tally sent from its port.
+/// many slots of each run as the run credits units to it, from the run's first slot on. And what a wire was sent is
+/// what the runs of the tally sent from its port.
 pub fn tallies_tell_schedules()
     ensures schedule { (o : Opening) (journal : List Entry) (x : TalliedRuns) → IsTally o journal x →
         schedule_of o journal ≡ tallied_schedule x.closed (state_of o journal).next }
@@ -189,9 +189,9 @@ pub fn tallies_tell_schedules()
 
 /// The definitions give the schedules and wires that were worked out by hand: of coflows that are served in a published
 /// order, of a run with a note, of slots that pass, of two runs with a withdrawal between, of a run that is still open,
-/// of two ports, and of driven runs, one of them among entries of others; and a run that is twice on a wire counts twice
-/// there. What is counted in these journals was counted by hand, and so was the schedule of a tally. Of notes of two ports
-/// it was said by hand whether they come in order.
+/// of two ports, and of driven runs, one of them among entries of others; and a run that is twice on a wire counts
+/// twice there. What is counted in these journals was counted by hand, and so was the schedule of a tally. Of notes of
+/// two ports it was said by hand whether they come in order.
 pub fn run_rows_hold()
     ensures served_order { ServedOrder }
     ensures noted_run { NotedRun }

@@ -20,8 +20,9 @@ pub struct Credit {
     pub units: u64,
 }
 
-/// A run as it stands when it is closed: its first slot, how many slots it has, and its granted flows by number, each with the units that are credited to it. In the schedule a
-/// flow stands in so many of the run's slots, from the first one on; its wire was sent them from the first slot on.
+/// A run as it stands when it is closed: its first slot, how many slots it has, and its granted flows by number, each
+/// with the units that are credited to it. In the schedule a flow stands in so many of the run's slots, from the first
+/// one on; its wire was sent them from the first slot on.
 #[derive(Drop)]
 pub struct CreditedRun {
     pub first: u64,
@@ -29,7 +30,8 @@ pub struct CreditedRun {
     pub credits: Items<Credit>,
 }
 
-/// The closed runs of a journal and the open one, taken down entry by entry. The replies tell all but the granted flows, which the master tells while the run is open.
+/// The closed runs of a journal and the open one, taken down entry by entry. The replies tell all but the granted
+/// flows, which the master tells while the run is open.
 ///
 /// Contracts see a `RunTally` as its closed runs, in order, and the open run with what is credited to its flows so far.
 #[derive(Drop)]
@@ -57,9 +59,10 @@ impl RunTally {
         }
     }
 
-    /// Takes down the next entry of a journal over these flows. `granted` are the flows that the open run grants after the entry, by number, and none where no run is open: what
-    /// `Master::granted_flows` tells. They are looked at only where the entry opens a run. A note costs a look at each granted flow, any other entry no more than it adds. The error
-    /// is want of memory, and leaves the tally as it was.
+    /// Takes down the next entry of a journal over these flows. `granted` are the flows that the open run grants after
+    /// the entry, by number, and none where no run is open: what `Master::granted_flows` tells. They are looked at only
+    /// where the entry opens a run. A note costs a look at each granted flow, any other entry no more than it adds. The
+    /// error is want of memory, and leaves the tally as it was.
     pub fn take(
         &mut self,
         alloc: Global,

@@ -11,8 +11,9 @@ use journal::{Command, Reply};
 use master_core::Master;
 use schedule_model::Schedule;
 
-/// A master answers a command that its journal has room for, and the slots of the run that it closes are added to the schedule, each with all flows that the run grants.
-/// The command notes no units and skips no slots. The error is want of memory.
+/// A master answers a command that its journal has room for, and the slots of the run that it closes are added to the
+/// schedule, each with all flows that the run grants. The command notes no units and skips no slots. The error is want
+/// of memory.
 pub fn answer(
     master: &mut Master,
     schedule: &mut Schedule,

@@ -24,11 +24,14 @@ use live_text::Live;
 use master_core::Master;
 use std::alloc::Global;
 
-/// Whether a printed journal is right for the table and the opening weights, one for each coflow, from 1 to 2^32; or the first reason why it is not.
+/// Whether a printed journal is right for the table and the opening weights, one for each coflow, from 1 to 2^32; or
+/// the first reason why it is not.
 ///
-/// The ids of its entries are looked up, a master with this table and these weights answers its commands one after another, and all that the text says is held against the answers:
-/// the replies, the orders, what pulls were told, and the slots of the runs that were closed, each with all flows that its run grants. The journal of the master takes as many entries
-/// as the text has, or 1 where it has none. What is said of callers is not looked at: neither who asked what, nor when. The error is want of memory.
+/// The ids of its entries are looked up, a master with this table and these weights answers its commands one after
+/// another, and all that the text says is held against the answers: the replies, the orders, what pulls were told, and
+/// the slots of the runs that were closed, each with all flows that its run grants. The journal of the master takes as
+/// many entries as the text has, or 1 where it has none. What is said of callers is not looked at: neither who asked
+/// what, nor when. The error is want of memory.
 pub fn audit(
     alloc: Global,
     table: Table,

@@ -9,7 +9,8 @@ use flow_table::Table;
 use indexmap::IndexMap;
 use std::alloc::Global;
 
-/// The number of the coflow with each id of the table, found by the id: the least, where several coflows have it. The error is want of memory.
+/// The number of the coflow with each id of the table, found by the id: the least, where several coflows have it. The
+/// error is want of memory.
 pub fn coflows_by_id(alloc: Global, table: &Table) -> Result<IndexMap<u32, u32>, NoMemory>
     ensures { IfOk result (λ coflows. Finds table.now.ids (get nat_eq coflows)) }
 {

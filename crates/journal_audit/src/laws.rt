@@ -33,10 +33,11 @@ pub fn verdict_is_one()
         IsAudit t weights l b → a ≡ b }
 {}
 
-/// What a yes says of the runs of a printed journal, whoever made it. Its slots are those of the closed runs, one after another, each with all flows that its run grants. Each of
-/// these runs was opened by an entry of the journal. In the slots of such a run, a flow that owed units when it was opened, and whose coflow stood in the line there, is
-/// granted, or shares a port with a granted flow of a coflow no later in the line. The flows of a slot ascend, so none stands twice in it, and no two of them share a port. No flow stands in more slots than
-/// it has units.
+/// What a yes says of the runs of a printed journal, whoever made it. Its slots are those of the closed runs, one after
+/// another, each with all flows that its run grants. Each of these runs was opened by an entry of the journal. In the
+/// slots of such a run, a flow that owed units when it was opened, and whose coflow stood in the line there, is
+/// granted, or shares a port with a granted flow of a coflow no later in the line. The flows of a slot ascend, so none
+/// stands twice in it, and no two of them share a port. No flow stands in more slots than it has units.
 pub fn yes_keeps_the_line()
     ensures slots { (t : TableFacts) (weights : List ℕ) (l : Live) → IsLive l → IsSoundLive t weights l →
         slots_in l.runs ≡ slots_of (map run_line (closed_runs (opening_for t weights l) (journal_in t l))) }

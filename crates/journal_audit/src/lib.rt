@@ -1,4 +1,5 @@
-//! Printed journals, by whomever made: what makes one right, which reason comes first where one is not, what a right one says, and the audit that tells.
+//! Printed journals, by whomever made: what makes one right, which reason comes first where one is not, what a right
+//! one says, and the audit that tells.
 #![tactic(auto)]
 
 mod answering;

@@ -6,7 +6,8 @@ use crate::verdict::{Audit, AuditReason};
 use coflow_units::NoMemory;
 use std::alloc::Global;
 
-/// The line of a verdict on a printed journal, with its line feed: `yes` and the numbers, or `no` and the reason with its values. The error is want of memory.
+/// The line of a verdict on a printed journal, with its line feed: `yes` and the numbers, or `no` and the reason with
+/// its values. The error is want of memory.
 pub fn audit_text(alloc: Global, verdict: Audit) -> Result<Vec<u8>, NoMemory>
     ensures { IfOk result (λ text. text.items ≡ audit_text verdict) }
 {

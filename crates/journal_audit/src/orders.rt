@@ -22,7 +22,8 @@ pub struct WrongOrder {
     pub place: u32,
 }
 
-/// The first of the stated orders that is not the master's, up to the newest version, after the master gave this reply; or none. `wrong` is what was found so far, before the reply.
+/// The first of the stated orders that is not the master's, up to the newest version, after the master gave this reply;
+/// or none. `wrong` is what was found so far, before the reply.
 pub fn wrong_order_after(
     master: &Master,
     orders: &[Items<u32>],

@@ -10,8 +10,8 @@ use coflow_units::NoMemory;
 use run_list::Runs;
 use std::alloc::Global;
 
-/// The first slot, counted from 1, at which the schedules of two lists of runs part, the stated ones and the real ones: the slots differ, or one schedule has ended. None where they are
-/// the same. The error is want of memory.
+/// The first slot, counted from 1, at which the schedules of two lists of runs part, the stated ones and the real ones:
+/// the slots differ, or one schedule has ended. None where they are the same. The error is want of memory.
 pub fn first_parted_slot(alloc: Global, stated: &Runs, real: &Runs) -> Result<Option<u64>, NoMemory>
     requires stated { IsKept stated.now }
     requires real { IsKept real.now }
@@ -36,7 +36,8 @@ pub fn first_parted_slot(alloc: Global, stated: &Runs, real: &Runs) -> Result<Op
     Ok(Some(passed + 1))
 }
 
-/// How many slots two runs have in common, where they are not the same: a stated one of so many slots and a real one, with their flows.
+/// How many slots two runs have in common, where they are not the same: a stated one of so many slots and a real one,
+/// with their flows.
 fn common_slots(slots: u64, flows: &[u32], real: u64, real_flows: &[u32]) -> Option<u64>
     ensures { MatchOption result ((slots ≡ real) × (flows.now ≡ real_flows.now))
         (HaveInCommon (run_of slots flows.now) (run_of real real_flows.now)) }

@@ -14,7 +14,8 @@ use crate::ids::found;
 use indexmap::IndexMap;
 use live_text::PullLine;
 
-/// A pull with a wrong rank: its client and its line, which count from 1, the rank that is stated, and the one that it should be.
+/// A pull with a wrong rank: its client and its line, which count from 1, the rank that is stated, and the one that it
+/// should be.
 #[derive(Clone, Copy)]
 pub struct WrongRank {
     pub client: u32,
@@ -23,8 +24,8 @@ pub struct WrongRank {
     pub real: u32,
 }
 
-/// The first of the stated pulls with a wrong rank, or none. `coflows` has the numbers of coflows by their ids, and `ranks` for each version of a journal, from version 1 on, the
-/// ranks of coflows by their numbers.
+/// The first of the stated pulls with a wrong rank, or none. `coflows` has the numbers of coflows by their ids, and
+/// `ranks` for each version of a journal, from version 1 on, the ranks of coflows by their numbers.
 pub fn wrong_rank(
     coflows: &IndexMap<u32, u32>,
     ranks: &[IndexMap<u32, u32>],
@@ -70,8 +71,9 @@ pub struct WrongVersion {
     pub line: u32,
 }
 
-/// The first of the stated pulls that names a version above the newest one, an id that is no coflow's, or a lesser version than the pull of the same client before; or none. `coflows`
-/// has the numbers of coflows by their ids. The pulls stand by client and then by line.
+/// The first of the stated pulls that names a version above the newest one, an id that is no coflow's, or a lesser
+/// version than the pull of the same client before; or none. `coflows` has the numbers of coflows by their ids. The
+/// pulls stand by client and then by line.
 pub fn wrong_version(
     coflows: &IndexMap<u32, u32>,
     newest: u32,

@@ -15,7 +15,8 @@ use journal::Reply;
 use master_core::Master;
 use std::alloc::Global;
 
-/// Adds to the tables of ranks, one for each version, that of the newest version, where the master has just made it by this reply. The error is want of memory.
+/// Adds to the tables of ranks, one for each version, that of the newest version, where the master has just made it by
+/// this reply. The error is want of memory.
 pub fn rank_newest(
     alloc: Global,
     master: &Master,

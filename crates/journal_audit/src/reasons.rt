@@ -22,7 +22,8 @@ use live_text::Live;
 use master_core::Master;
 use std::alloc::Global;
 
-/// The first reason where the master answered all entries as stated: a run that is open at the end, an order, a rank, a version of a pull, or a slot. None where all is right.
+/// The first reason where the master answered all entries as stated: a run that is open at the end, an order, a rank, a
+/// version of a pull, or a slot. None where all is right.
 pub(crate) fn late_reason(
     alloc: Global,
     master: &Master,
@@ -72,7 +73,8 @@ pub(crate) fn late_reason(
     Ok(Some(AuditReason::NoRun { slot }))
 }
 
-/// The first wrong order, where this is the first one of those that the master made: it, or the first stated one that the master has not.
+/// The first wrong order, where this is the first one of those that the master made: it, or the first stated one that
+/// the master has not.
 fn wrong_order(
     master: &Master,
     wrong: Option<WrongOrder>,

@@ -23,8 +23,8 @@ use master_core::Master;
 use schedule_model::Schedule;
 use std::alloc::Global;
 
-/// What is taken down while a master answers: the slots of the runs that it closed, for each version the rank of each coflow, counted from 1, and the first stated order that is not the
-/// master's.
+/// What is taken down while a master answers: the slots of the runs that it closed, for each version the rank of each
+/// coflow, counted from 1, and the first stated order that is not the master's.
 #[derive(Drop)]
 pub(crate) struct Replayed {
     pub(crate) schedule: Schedule,
@@ -53,7 +53,8 @@ pub(crate) struct WrongEntry {
     pub(crate) real: Reply,
 }
 
-/// A master without entries answers the commands of the entries, one after another, up to the first reply that is not the stated one. The error is want of memory.
+/// A master without entries answers the commands of the entries, one after another, up to the first reply that is not
+/// the stated one. The error is want of memory.
 pub(crate) fn replay(
     alloc: Global,
     master: &mut Master,

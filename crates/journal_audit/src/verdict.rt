@@ -15,8 +15,9 @@ pub enum Audit {
     No(AuditReason),
 }
 
-/// Why a printed journal is not right. The kinds stand in the order in which they are looked for. `stated` is what the journal says, `real` what it should say. Positions,
-/// versions, places and slots count from 1; a client and a line are those of a pull.
+/// Why a printed journal is not right. The kinds stand in the order in which they are looked for. `stated` is what the
+/// journal says, `real` what it should say. Positions, versions, places and slots count from 1; a client and a line are
+/// those of a pull.
 #[derive(Clone, Copy, Debug, PartialEq, Eq)]
 pub enum AuditReason {
     /// The id of the entry at this position is no coflow's. None before has such an id.
@@ -33,20 +34,22 @@ pub enum AuditReason {
     NoClose {
         slot: u64,
     },
-    /// The order of this version is the first that is not the master's. The two differ first at this place, or one of them has ended before it. A version that one side lacks
-    /// counts as an empty order.
+    /// The order of this version is the first that is not the master's. The two differ first at this place, or one of
+    /// them has ended before it. A version that one side lacks counts as an empty order.
     NoOrder {
         version: u32,
         place: u32,
     },
-    /// This pull is the first whose rank is not that of its coflow in its version; a version that was not made and an id that is no coflow's have rank 0.
+    /// This pull is the first whose rank is not that of its coflow in its version; a version that was not made and an
+    /// id that is no coflow's have rank 0.
     NoPull {
         client: u32,
         line: u32,
         stated: u32,
         real: u32,
     },
-    /// This pull is the first with a version that was not made, with an id that is no coflow's, or with a lesser version than a pull of the same client before.
+    /// This pull is the first with a version that was not made, with an id that is no coflow's, or with a lesser
+    /// version than a pull of the same client before.
     NoVersion {
         client: u32,
         line: u32,

@@ -15,8 +15,9 @@ ghost use Rattle.journal_audit.specs.Reasons.{IsAudit};
 ghost use Rattle.journal_audit.specs.Sound.{IsSoundLive};
 
 /// What is printed of a run of `live` is right for the table and the weights that the run began with, where no two
-/// coflows of the table have one id and the lines of the script may be asked. The journal of the run has the limit of its
-/// script, and that of the audit as many entries as are printed, or 1 where there are none: the replies are the same.
+/// coflows of the table have one id and the lines of the script may be asked. The journal of the run has the limit of
+/// its script, and that of the audit as many entries as are printed, or 1 where there are none: the replies are the
+/// same.
 pub fn printed_runs_are_right()
     ensures { (o : Opening) (script : Script) (most : ℕ) (live : Live) (journal : List Entry) (wires : Wires) →
         IsDistinct o.table.ids → MayBeAsked o script → IsLiveRun o script most live journal wires →

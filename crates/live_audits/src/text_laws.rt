@@ -22,8 +22,8 @@ ghost use Rattle.journal_audit.specs.declared.verdict.Audit.{Audit};
 ghost use Rattle.journal_audit.specs.declared.verdict.Audit.TheVariants.{Yes};
 ghost use Rattle.journal_audit.specs.Reasons.{IsAudit};
 
-/// What a hall begins with is within its limits, where its table and its weights are, clients may share the table's units
-/// live, and the journal has the limit of a script that was read over the table's coflows.
+/// What a hall begins with is within its limits, where its table and its weights are, clients may share the table's
+/// units live, and the journal has the limit of a script that was read over the table's coflows.
 pub fn openings_of_scripts_fit()
     ensures { (o : Opening) (script : Script) → IsTable o.table → length o.weights ≡ length o.table.ids →
         All (λ w. (1 ≤ w) × (w ≤ MAX_WEIGHT)) o.weights →
@@ -31,9 +31,9 @@ pub fn openings_of_scripts_fit()
         o.limit ≡ limit_of o script → IsOpening o }
 {}
 
-/// What is printed of a run of `live` is a printed journal that a text can have, where the run began within its limits, ids
-/// are below 2^32, the script was read of a text of at most 2^26 bytes, and an opening asks for 1 to 2^64 - 1 slots. So a
-/// reader of its text answers it, where there is memory.
+/// What is printed of a run of `live` is a printed journal that a text can have, where the run began within its limits,
+/// ids are below 2^32, the script was read of a text of at most 2^26 bytes, and an opening asks for 1 to 2^64 - 1
+/// slots. So a reader of its text answers it, where there is memory.
 pub fn printed_runs_are_read_back()
     ensures live { (o : Opening) (script : Script) (most : ℕ) (live : Live) (journal : List Entry) (wires : Wires) →
         IsOpening o → All (λ id. id < 2 ^ 32) o.table.ids → (given : IsRead o.table.ids script) →
@@ -49,8 +49,8 @@ pub fn printed_runs_are_read_back()
         GivesLive (live_text live) (Err (BadText line)) → ⊥ }
 {}
 
-/// Where ids differ too, yes, with the numbers of entries, orders and slots that were printed, is a verdict on what a reader
-/// answers of the text, and there is no other.
+/// Where ids differ too, yes, with the numbers of entries, orders and slots that were printed, is a verdict on what a
+/// reader answers of the text, and there is no other.
 pub fn printed_texts_are_audited_yes()
     ensures yes { (o : Opening) (script : Script) (most : ℕ) (live : Live) (journal : List Entry) (wires : Wires)
         (read : Live) → IsOpening o → IsDistinct o.table.ids → All (λ id. id < 2 ^ 32) o.table.ids →

@@ -36,8 +36,8 @@ pub fn rows_hold()
     ensures hidden { Hidden }
 {}
 
-/// A run is refused where a pair is sent twice on a wire, where a command has no entry, and where an entry stands before
-/// one of an earlier round.
+/// A run is refused where a pair is sent twice on a wire, where a command has no entry, and where an entry stands
+/// before one of an earlier round.
 pub fn damaged_runs_are_refused()
     ensures sent_twice { SentTwice → ⊥ }
     ensures missing_entry { MissingEntry → ⊥ }
@@ -66,8 +66,8 @@ pub fn wrong_openings_are_refused()
     ensures wrong_most { WrongMost → ⊥ }
 {}
 
-/// A text is refused where an entry is printed with the reply of another, where an order is not that of its version, and
-/// where the runs are not those of the schedule.
+/// A text is refused where an entry is printed with the reply of another, where an order is not that of its version,
+/// and where the runs are not those of the schedule.
 pub fn wrong_texts_are_refused()
     ensures wrong_reply { WrongReply → ⊥ }
     ensures wrong_order { WrongOrder → ⊥ }

@@ -2,7 +2,8 @@
 ghost use Rattle.std.specs.Prelude.{◌≡◌};
 ghost use Rattle.live_rounds.specs.Stops.{stop_for};
 
-/// A pull as it was carried out: the number of its client, its line in the script, its coflow, the version that it was told, and the rank of the coflow in it, or 0 where it has none.
+/// A pull as it was carried out: the number of its client, its line in the script, its coflow, the version that it was
+/// told, and the rank of the coflow in it, or 0 where it has none.
 #[derive(Clone, Copy, Debug, PartialEq, Eq)]
 pub struct PullDone {
     pub client: u32,
@@ -23,7 +24,8 @@ pub enum RoundStop {
     NoMemory,
 }
 
-/// Why a client carries out no more of its lines: a turn found no room in the journal, which has so many entries, or no call was left for one.
+/// Why a client carries out no more of its lines: a turn found no room in the journal, which has so many entries, or no
+/// call was left for one.
 #[derive(Clone, Copy, Debug, PartialEq, Eq)]
 pub enum TurnStop {
     Full(u32),

@@ -8,7 +8,8 @@ use crate::part::{Part, keep};
 use client_session::{Hall, Session};
 use std::sync::Wait;
 
-/// Carries out the lines of a client in its session, in order. It passes the gate before each, and stops where a turn finds no room in the journal or no call is left for one.
+/// Carries out the lines of a client in its session, in order. It passes the gate before each, and stops where a turn
+/// finds no room in the journal or no call is left for one.
 pub(crate) fn play<R: Wait, G: Gate>(
     rt: &R,
     hall: &Hall,

@@ -79,8 +79,8 @@ pub fn clients_do_their_scripts()
         (k : ℕ) → All (IsBetween journal levels) (deeds_of (told k)) }
 {}
 
-/// The driver's entries are openings, one after the other: none at first, one more by a run that was sent whole and by an
-/// opening that finds nothing left, and none by entries of others.
+/// The driver's entries are openings, one after the other: none at first, one more by a run that was sent whole and by
+/// an opening that finds nothing left, and none by entries of others.
 pub fn drivers_open_runs()
     ensures first { (most : ℕ) → AreOpenings most [] [] }
     ensures run { (o : Opening) (round most : ℕ) (before after : List Entry) (d : Drive) (spells : List Spell) →

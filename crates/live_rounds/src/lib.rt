@@ -1,5 +1,5 @@
-//! Rounds of a script: its clients carry out their lines in sessions of a hall, beside each other, each its own lines in
-//! their order.
+//! Rounds of a script: its clients carry out their lines in sessions of a hall, beside each other, each its own lines
+//! in their order.
 #![tactic(auto)]
 
 mod answer;

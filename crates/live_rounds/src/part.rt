@@ -15,7 +15,8 @@ pub(crate) struct Part {
     pub(crate) stop: Option<TurnStop>,
 }
 
-/// The parts of so many clients, whose numbers count from 1, with room for what their pulls will be told. The error is want of memory.
+/// The parts of so many clients, whose numbers count from 1, with room for what their pulls will be told. The error is
+/// want of memory.
 pub(crate) fn parts_of(
     alloc: Global,
     lines: &[ScriptLine],
@@ -52,7 +53,8 @@ fn part_of(alloc: Global, lines: &[ScriptLine], number: usize) -> Result<Part, N
     })
 }
 
-/// Keeps what a line came to, for which there is room: what a pull was told, or why the client stops. The answer is whether it goes on.
+/// Keeps what a line came to, for which there is room: what a pull was told, or why the client stops. The answer is
+/// whether it goes on.
 pub(crate) fn keep(part: &mut Part, answer: Result<Option<PullDone>, TurnStop>) -> bool
     requires room { length part.old.pulls.items < vec_capacity part.old.pulls }
     ensures { Keeps part.old part.new answer result }

@@ -11,7 +11,8 @@ use client_session::{Hall, Session};
 use std::sync::Wait;
 use std::thread::{Threads, join_mut};
 
-/// The clients carry out their parts beside each other, each in its session and by its gate. Where one half of them has no lines, no thread is started for it.
+/// The clients carry out their parts beside each other, each in its session and by its gate. Where one half of them has
+/// no lines, no thread is started for it.
 #[tactic(auto, using(crate::proofs::Halves::each_halves))]
 pub(crate) fn play_all<R: Threads + Wait + Sync, G: Gate + Send>(
     rt: &R,

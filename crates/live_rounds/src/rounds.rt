@@ -15,14 +15,16 @@ use std::sync::Wait;
 use std::thread::Threads;
 use workload::ScriptLine;
 
-/// Carries out the lines of a round. The client of number K uses session K, counted from 1, on a thread of its own and in the order of its lines. Before each command it passes its
-/// gate. There is a gate for each session. It takes turns, which may wait.
+/// Carries out the lines of a round. The client of number K uses session K, counted from 1, on a thread of its own and
+/// in the order of its lines. Before each command it passes its gate. There is a gate for each session. It takes turns,
+/// which may wait.
 ///
-/// The answer are the pulls, by client and then by line, with the version that each was told and the rank of its coflow. A pull reads the board of ranks. Where a publishing that is
-/// under way hides the rank there, the client asks in a turn, which then has an entry in the journal.
+/// The answer are the pulls, by client and then by line, with the version that each was told and the rank of its
+/// coflow. A pull reads the board of ranks. Where a publishing that is under way hides the rank there, the client asks
+/// in a turn, which then has an entry in the journal.
 ///
-/// `Full` and `Spent` come only where a turn of this round was answered so, and are those of the least such client. That client carries out no later line. `NoMemory` comes before any
-/// command.
+/// `Full` and `Spent` come only where a turn of this round was answered so, and are those of the least such client.
+/// That client carries out no later line. `NoMemory` comes before any command.
 pub fn round<R: Threads + Wait + Sync, G: Gate + Send>(
     alloc: Global,
     rt: &R,

@@ -14,7 +14,8 @@ use live_text::EntryLine;
 use master_core::Master;
 use std::alloc::Global;
 
-/// The entries of a journal, each by its words. There are words for each of them: nothing is noted, no slot is skipped, and no reply is one that a driver gets of a fault.
+/// The entries of a journal, each by its words. There are words for each of them: nothing is noted, no slot is skipped,
+/// and no reply is one that a driver gets of a fault.
 ///
 /// The error is want of memory.
 pub fn entry_lines(alloc: Global, closed: &Master) -> Result<Vec<EntryLine>, NoMemory>

@@ -32,9 +32,9 @@ pub fn closed_halls_are_told()
         IsLiveRun o script most live journal wires }
 {}
 
-/// A script that was read over the coflows of a table may be carried out: each line is of one of its clients, who are at
-/// most 64, and its command is in range. Where the table has no more units than clients may share live, the limit of the
-/// journal is at most 2^23.
+/// A script that was read over the coflows of a table may be carried out: each line is of one of its clients, who are
+/// at most 64, and its command is in range. Where the table has no more units than clients may share live, the limit of
+/// the journal is at most 2^23.
 pub fn scripts_may_be_asked()
     ensures asked { (o : Opening) (script : Script) → IsRead o.table.ids script → MayBeAsked o script }
     ensures clients { (ids : List ℕ) (script : Script) → IsRead ids script → script.clients ≤ MAX_CLIENTS }

@@ -1,5 +1,5 @@
-//! A run of `live` from its script to its text: a hall serves the script, a master on one thread answers the journal anew,
-//! and the value that is printed is told by both.
+//! A run of `live` from its script to its text: a hall serves the script, a master on one thread answers the journal
+//! anew, and the value that is printed is told by both.
 #![tactic(auto)]
 
 mod entries;

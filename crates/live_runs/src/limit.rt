@@ -10,8 +10,8 @@ use flow_table::Table;
 use live_serving::journal_limit;
 use workload::Script;
 
-/// The limit of the journal for a script that was read over the coflows of a table, which has no more units than clients
-/// may share live: the script's commands, twice its rounds, twice the units, and two.
+/// The limit of the journal for a script that was read over the coflows of a table, which has no more units than
+/// clients may share live: the script's commands, twice its rounds, twice the units, and two.
 pub fn limit_of_read(table: &Table, script: &Script) -> u32
     requires read { IsRead table.now.ids script.now }
     requires units { sum_by (λ (x : Flow). x.units) table.now.flows ≤ MAX_LIVE_UNITS }

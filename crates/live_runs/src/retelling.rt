@@ -14,7 +14,8 @@ use master_core::Master;
 use schedule_model::Schedule;
 use std::alloc::Global;
 
-/// What a second master tells of a journal: the orders of its versions by their ids, and the slots of the runs that were closed.
+/// What a second master tells of a journal: the orders of its versions by their ids, and the slots of the runs that
+/// were closed.
 #[derive(Drop)]
 pub(crate) struct Retold {
     pub(crate) orders: Vec<Items<u32>>,
@@ -33,8 +34,8 @@ impl Retold {
     }
 }
 
-/// What is told of the journal of a master that began with these weights and this limit. A second master that begins in the same way answers it anew, since a master keeps no
-/// order but the newest. The error is want of memory.
+/// What is told of the journal of a master that began with these weights and this limit. A second master that begins in
+/// the same way answers it anew, since a master keeps no order but the newest. The error is want of memory.
 pub(crate) fn retold_of(
     alloc: Global,
     closed: &Master,

@@ -21,8 +21,9 @@ use std::sync::Wait;
 use std::thread::Threads;
 use workload::Script;
 
-/// Carries out a script in a hall over the table, with these weights, one for each coflow, from 1 to 2^32, and gives what is printed of it. The limit is that of the script. All
-/// else is as `serve_live` has it: what was sent at any answer, when a wire's fault comes, and how the clients, their gates and the agents stand beside one another.
+/// Carries out a script in a hall over the table, with these weights, one for each coflow, from 1 to 2^32, and gives
+/// what is printed of it. The limit is that of the script. All else is as `serve_live` has it: what was sent at any
+/// answer, when a wire's fault comes, and how the clients, their gates and the agents stand beside one another.
 pub fn run_live<R: Threads + Wait + Sync, W: Wire + Send, G: Gate + Send>(
     alloc: Global,
     rt: &R,

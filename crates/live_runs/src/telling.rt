@@ -21,13 +21,15 @@ use std::sync::Wait;
 use std::thread::Threads;
 use workload::Script;
 
-/// The text of a run of a script over a table of at most 2^20 units, with these weights, one for each coflow, from 1 to 2^32. The script is one that was read over the
-/// table's coflows. Each of its clients has a thread of its own, and passes its gate before each command. Runs of at most `most` slots are opened beside the rounds that
-/// ask for one, and after the last round until nothing is left. So many agents beside each other send the units, each on the wire of its ingress port; further wires are
-/// left alone.
+/// The text of a run of a script over a table of at most 2^20 units, with these weights, one for each coflow, from 1 to
+/// 2^32. The script is one that was read over the table's coflows. Each of its clients has a thread of its own, and
+/// passes its gate before each command. Runs of at most `most` slots are opened beside the rounds that ask for one, and
+/// after the last round until nothing is left. So many agents beside each other send the units, each on the wire of its
+/// ingress port; further wires are left alone.
 ///
-/// `WireFault` comes only where the count of that port's wire rose in this call. It is the least port at which a unit of the last run is missing, and no run is opened after
-/// it. `NoMemory` is want of memory. At every answer what was sent are units of the schedule of one legal journal, none twice; where there is a text, of the one that it has.
+/// `WireFault` comes only where the count of that port's wire rose in this call. It is the least port at which a unit
+/// of the last run is missing, and no run is opened after it. `NoMemory` is want of memory. At every answer what was
+/// sent are units of the schedule of one legal journal, none twice; where there is a text, of the one that it has.
 pub fn served_live<R: Threads + Wait + Sync, W: Wire + Send, G: Gate + Send>(
     alloc: Global,
     rt: &R,

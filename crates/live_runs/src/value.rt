@@ -17,7 +17,8 @@ use live_text::{Live, PullLine};
 use master_core::Master;
 use std::alloc::Global;
 
-/// What is printed of a run that was served, whose master began with these weights and this limit. The error is want of memory.
+/// What is printed of a run that was served, whose master began with these weights and this limit. The error is want of
+/// memory.
 pub(crate) fn value_of(
     alloc: Global,
     served: Served,
@@ -43,10 +44,12 @@ pub(crate) fn copy_of(alloc: Global, weights: &Items<u64>) -> Result<Items<u64>,
     Ok(Items::from_vec(copy))
 }
 
-/// What is printed of a closed journal, and of these pulls: its entries, each by its words; the orders of all versions from 1 on, by their ids; the pulls as they are; and the
-/// schedule as runs of equal slots. The master began with these weights and this limit.
+/// What is printed of a closed journal, and of these pulls: its entries, each by its words; the orders of all versions
+/// from 1 on, by their ids; the pulls as they are; and the schedule as runs of equal slots. The master began with these
+/// weights and this limit.
 ///
-/// There are words for each entry: nothing is noted, no slot is skipped, and no reply is one that a driver gets of a fault. The error is want of memory.
+/// There are words for each entry: nothing is noted, no slot is skipped, and no reply is one that a driver gets of a
+/// fault. The error is want of memory.
 pub fn live_value(
     alloc: Global,
     closed: &Master,

@@ -1,5 +1,6 @@
-//! The text of a printed journal: what clients and their driver asked a master and were answered, the orders that were published, what pulls were told, and the schedule. Each value
-//! has one text, and each text stands for at most one value.
+//! The text of a printed journal: what clients and their driver asked a master and were answered, the orders that were
+//! published, what pulls were told, and the schedule. Each value has one text, and each text stands for at most one
+//! value.
 #![tactic(auto)]
 
 mod deals;

@@ -2,8 +2,8 @@
 use coflow_units::Items;
 use run_list::Runs;
 
-/// The command of an entry. `Register`, `Withdraw` and `Pull` have the id of a coflow, `Reweigh` has also the weight that it gets, and `Open` has the number of slots that the run
-/// may have at most.
+/// The command of an entry. `Register`, `Withdraw` and `Pull` have the id of a coflow, `Reweigh` has also the weight
+/// that it gets, and `Open` has the number of slots that the run may have at most.
 #[derive(Clone, Copy, Debug, PartialEq, Eq)]
 pub enum Word {
     Register(u32),
@@ -15,8 +15,9 @@ pub enum Word {
     Reweigh(u32, u64),
 }
 
-/// The reply of an entry. `Version` has the version of the order that was published, and `StillOpen` the first slot of the run that is open. `Rank` has a version and the rank in it,
-/// and `Unranked` a version. `Opened` has the first slot of the run, its length and the number of its flows, and `Closed` the first slot. `Weighed` has the weight that went.
+/// The reply of an entry. `Version` has the version of the order that was published, and `StillOpen` the first slot of
+/// the run that is open. `Rank` has a version and the rank in it, and `Unranked` a version. `Opened` has the first slot
+/// of the run, its length and the number of its flows, and `Closed` the first slot. `Weighed` has the weight that went.
 #[derive(Clone, Copy, Debug, PartialEq, Eq)]
 pub enum Said {
     Joined,
@@ -41,7 +42,8 @@ pub struct EntryLine {
     pub said: Said,
 }
 
-/// What a pull was told: the number of the client, that of the line of its script, the id of the coflow, a version, and the rank of the coflow in it, or 0 where it has none.
+/// What a pull was told: the number of the client, that of the line of its script, the id of the coflow, a version, and
+/// the rank of the coflow in it, or 0 where it has none.
 #[derive(Clone, Copy, Debug, PartialEq, Eq)]
 pub struct PullLine {
     pub client: u32,
@@ -51,7 +53,8 @@ pub struct PullLine {
     pub rank: u32,
 }
 
-/// A printed journal: its entries by position, the orders by version, from version 1 on, the pulls by client and then by line, and the schedule as runs of equal slots.
+/// A printed journal: its entries by position, the orders by version, from version 1 on, the pulls by client and then
+/// by line, and the schedule as runs of equal slots.
 #[derive(Drop)]
 pub struct Live {
     pub entries: Items<EntryLine>,

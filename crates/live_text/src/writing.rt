@@ -10,11 +10,13 @@ use std::alloc::Global;
 
 /// The text of a printed journal.
 ///
-/// Words are separated by one space, each line ends with one line feed, and numbers are decimal without leading zeros. The lines are `sincronia live 1`; for each entry
-/// `entry POSITION WHO COMMAND REPLY` with POSITION counting from 1; for each order `order V ID ID ...` with V counting from 1; for each pull `pull K LINE ID VERSION RANK`; for each
-/// run `run LENGTH FLOW FLOW ...`; and `end`. A command is `register ID`, `withdraw ID`, `publish`, `pull ID`, `open MOST`, `close` or `reweigh ID WEIGHT`. A reply is `joined`,
-/// `already`, `left`, `nothere`, `version V`, `stillopen SLOT`, `rank V R`, `unranked V`, `opened SLOT LENGTH COUNT`, `nothing`, `closed SLOT` or `weighed OLD`. The lines of the runs
-/// and the last one are made when the text is written.
+/// Words are separated by one space, each line ends with one line feed, and numbers are decimal without leading zeros.
+/// The lines are `sincronia live 1`; for each entry `entry POSITION WHO COMMAND REPLY` with POSITION counting from 1;
+/// for each order `order V ID ID ...` with V counting from 1; for each pull `pull K LINE ID VERSION RANK`; for each run
+/// `run LENGTH FLOW FLOW ...`; and `end`. A command is `register ID`, `withdraw ID`, `publish`, `pull ID`, `open MOST`,
+/// `close` or `reweigh ID WEIGHT`. A reply is `joined`, `already`, `left`, `nothere`, `version V`, `stillopen SLOT`,
+/// `rank V R`, `unranked V`, `opened SLOT LENGTH COUNT`, `nothing`, `closed SLOT` or `weighed OLD`. The lines of the
+/// runs and the last one are made when the text is written.
 ///
 /// The error is want of memory.
 pub fn write_live(alloc: Global, live: Live) -> Result<Text, NoMemory>

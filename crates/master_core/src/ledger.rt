@@ -8,7 +8,8 @@ use flow_table::Table;
 use std::alloc::Global;
 use std::marker::Model;
 
-/// Of each flow the units that it has, the ones that were sent, and the ones that it owes. A flow has what was sent and what it owes.
+/// Of each flow the units that it has, the ones that were sent, and the ones that it owes. A flow has what was sent and
+/// what it owes.
 ///
 /// Contracts see a `Ledger` as two lists by flow: the units, and of these the ones that are owed.
 #[derive(Drop)]

@@ -40,7 +40,8 @@ impl Line {
         Ok(Line { coflows })
     }
 
-    /// Fills in the line: first the coflows of the newest order, then the others by joining; only those that are present.
+    /// Fills in the line: first the coflows of the newest order, then the others by joining; only those that are
+    /// present.
     pub fn fill(&mut self, roster: &Roster, orders: &Orders)
         requires coflows { length roster.now.present ≡ orders.now.coflows }
         requires room { orders.now.coflows + orders.now.coflows ≤ self.old.room }

@@ -19,8 +19,8 @@ use journal::{Command, Entry, Opening, Reply};
 use std::alloc::Global;
 use std::marker::Model;
 
-/// The master of one thread. It answers commands one by one; what it answers is told by its opening and its journal alone. It keeps a state beside the journal, and never
-/// reads the journal back.
+/// The master of one thread. It answers commands one by one; what it answers is told by its opening and its journal
+/// alone. It keeps a state beside the journal, and never reads the journal back.
 ///
 /// Contracts see a `Master` as its opening, which no command changes, and its journal.
 #[derive(Drop)]
@@ -43,8 +43,9 @@ impl Model for Master {
 }
 
 impl Master {
-    /// A master of the table's coflows with these weights, one for each coflow, from 1 to 2^32. Its journal takes entries up to the limit, from 1 to 2^23, and has further room
-    /// for the notes and the closing of an open run. All memory that it ever needs is taken here, and the error is want of it.
+    /// A master of the table's coflows with these weights, one for each coflow, from 1 to 2^32. Its journal takes
+    /// entries up to the limit, from 1 to 2^23, and has further room for the notes and the closing of an open run. All
+    /// memory that it ever needs is taken here, and the error is want of it.
     pub fn new(
         alloc: Global,
         table: Table,
@@ -82,7 +83,8 @@ impl Master {
         })
     }
 
-    /// Whether a command is in range: its coflow and its port are the table's, a run is opened for at least one slot, and a weight is from 1 to 2^32.
+    /// Whether a command is in range: its coflow and its port are the table's, a run is opened for at least one slot,
+    /// and a weight is from 1 to 2^32.
     pub fn is_in_range(&self, command: Command) -> bool
         ensures test { result ≡ in_range self.now.opening command }
         ensures range { IsTrue result → IsInRange self.now.opening command }
@@ -99,8 +101,9 @@ impl Master {
         }
     }
 
-    /// Carries out a command of a caller, and answers it; the journal gets an entry of both. Where the journal has no room, the answer is `Full` and nothing changes.
-    /// The command is in range, as `is_in_range` tells. It takes no memory.
+    /// Carries out a command of a caller, and answers it; the journal gets an entry of both. Where the journal has no
+    /// room, the answer is `Full` and nothing changes. The command is in range, as `is_in_range` tells. It takes no
+    /// memory.
     pub fn step(&mut self, who: u32, command: Command) -> Reply
         requires { IsInRange self.old.opening command }
         ensures reply { result ≡ reply_of self.old.opening self.old.journal command }
@@ -131,7 +134,8 @@ impl Master {
         &self.journal
     }
 
-    /// The flow that is granted at an ingress in the open run. None comes exactly where no run is open, or the ingress has no grant in it.
+    /// The flow that is granted at an ingress in the open run. None comes exactly where no run is open, or the ingress
+    /// has no grant in it.
     pub fn granted(&self, ingress: u32) -> Option<u32>
         ensures { result ≡
             flow_at self.now.opening.table.flows (state_of self.now.opening self.now.journal).run ingress }
@@ -146,7 +150,8 @@ impl Master {
         self.standing.runs.flows()
     }
 
-    /// The ingress port of each flow that is granted in the open run, in the order of `granted_flows`. There are none where no run is open. It takes no memory.
+    /// The ingress port of each flow that is granted in the open run, in the order of `granted_flows`. There are none
+    /// where no run is open. It takes no memory.
     pub fn granted_ports(&self) -> &[u32]
         ensures { result.now ≡ map (ingress_of self.now.opening.table.flows)
             (flows_granted (state_of self.now.opening self.now.journal).run) }
@@ -164,7 +169,8 @@ impl Master {
         }
     }
 
-    /// What was noted last at an ingress in the open run. None comes exactly where no run is open, or nothing was noted there in it.
+    /// What was noted last at an ingress in the open run. None comes exactly where no run is open, or nothing was noted
+    /// there in it.
     pub fn noted(&self, ingress: u32) -> Option<u64>
         requires { ingress < self.now.opening.table.ports }
         ensures { result ≡ noted_at (state_of self.now.opening self.now.journal).run ingress }
@@ -223,7 +229,8 @@ impl Master {
         self.standing.ledger.owed(flow)
     }
 
-    /// The weight of a coflow: the last one that a `Reweigh` gave it, or the opening's where none did. The next order takes it.
+    /// The weight of a coflow: the last one that a `Reweigh` gave it, or the opening's where none did. The next order
+    /// takes it.
     pub fn weight(&self, coflow: u32) -> u64
         requires { coflow < length self.now.opening.table.ids }
         ensures { result ≡ (state_of self.now.opening self.now.journal).weight coflow }
@@ -245,7 +252,8 @@ fn is_weight(weight: u64) -> bool
     weight > 0 && weight <= MAX_WEIGHT
 }
 
-/// Up to how many entries the journal may grow by the command. An open run can be closed after one note for each port, also where other commands find no room.
+/// Up to how many entries the journal may grow by the command. An open run can be closed after one note for each port,
+/// also where other commands find no room.
 fn room_for(opening: &Opening, command: Command) -> usize
     requires few { opening.now.limit ≤ 2 ^ 23 }
     requires few_ports { opening.now.table.ports ≤ MAX_PORTS + 1 }

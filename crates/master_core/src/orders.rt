@@ -17,7 +17,8 @@ use std::marker::Model;
 
 /// The newest order with its version, and the room to make the next one.
 ///
-/// Contracts see `Orders` as the version, its places from place 1 on, and the numbers of coflows and ports that there is room for.
+/// Contracts see `Orders` as the version, its places from place 1 on, and the numbers of coflows and ports that there
+/// is room for.
 #[derive(Drop)]
 pub struct Orders {
     bssi: Bssi,
@@ -44,7 +45,8 @@ impl Model for Orders {
 }
 
 impl Orders {
-    /// Takes the room for orders of so many coflows, whose flows use so many ports on each side. Nothing is published: the version is 0, and its order is empty.
+    /// Takes the room for orders of so many coflows, whose flows use so many ports on each side. Nothing is published:
+    /// the version is 0, and its order is empty.
     pub fn new(alloc: Global, coflows: u32, ports: u32) -> Result<Orders, NoMemory>
         requires coflows_limit { coflows ≤ MAX_COFLOWS }
         requires has_ports { 1 ≤ ports }
@@ -72,7 +74,8 @@ impl Orders {
         })
     }
 
-    /// Makes the next version: the coflows that are present are ordered by the units that their flows have left, with one weight and one mark for each coflow. The flows stand coflow by coflow, those of each from its start on.
+    /// Makes the next version: the coflows that are present are ordered by the units that their flows have left, with
+    /// one weight and one mark for each coflow. The flows stand coflow by coflow, those of each from its start on.
     pub fn publish(
         &mut self,
         flows: &[Flow],

@@ -8,7 +8,8 @@ use coflow_units::NoMemory;
 use std::alloc::Global;
 use std::marker::Model;
 
-/// The coflows that joined, in joining order, and for each coflow whether it is present: whether it joined and has not left.
+/// The coflows that joined, in joining order, and for each coflow whether it is present: whether it joined and has not
+/// left.
 ///
 /// Contracts see a `Roster` as these two lists.
 #[derive(Drop)]

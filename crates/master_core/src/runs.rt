@@ -22,13 +22,16 @@ pub struct OpenRun {
     pub count: u32,
 }
 
-/// The grants that are kept from run to run, and the open run, where there is one, with the room for its notes. An open run grants the flows that are kept.
+/// The grants that are kept from run to run, and the open run, where there is one, with the room for its notes. An open
+/// run grants the flows that are kept.
 ///
-/// Contracts see `Runs` as the number of ports on each side, the tables of the kept grants, whether these are fresh, and the open run with its grants and notes.
+/// Contracts see `Runs` as the number of ports on each side, the tables of the kept grants, whether these are fresh,
+/// and the open run with its grants and notes.
 #[derive(Drop)]
 pub struct Runs {
     grants: Matching,
-    /// Whether the kept grants are those of the line and of the units that are owed now. Where they are not, they are made anew before the next run.
+    /// Whether the kept grants are those of the line and of the units that are owed now. Where they are not, they are
+    /// made anew before the next run.
     fresh: bool,
     /// For each ingress what was noted last in the open run.
     noted: Vec<Option<u64>>,
@@ -126,7 +129,8 @@ impl Runs {
         self.current
     }
 
-    /// The flow that is granted at an ingress in the open run. None comes exactly where no run is open, or the ingress has no grant in it.
+    /// The flow that is granted at an ingress in the open run. None comes exactly where no run is open, or the ingress
+    /// has no grant in it.
     pub fn at(&self, ingress: u32) -> Option<u32>
         ensures { result ≡ flow_kept self.now.run ingress }
     {
@@ -146,7 +150,8 @@ impl Runs {
         }
     }
 
-    /// The ingress port of each flow that is granted in the open run, in the order of `flows`. There are none where no run is open.
+    /// The ingress port of each flow that is granted in the open run, in the order of `flows`. There are none where no
+    /// run is open.
     pub fn ports(&self) -> &[u32]
         ensures { (flows : List Flow) (owed : List ℕ) → FitsOpen flows owed self.now.run →
             result.now ≡ map (ingress_of flows) (flows_kept self.now.run) }
@@ -157,7 +162,8 @@ impl Runs {
         }
     }
 
-    /// What was noted last at an ingress in the open run. None comes exactly where no run is open, or nothing was noted there in it.
+    /// What was noted last at an ingress in the open run. None comes exactly where no run is open, or nothing was noted
+    /// there in it.
     pub fn noted(&self, ingress: u32) -> Option<u64>
         requires { ingress < self.now.ports }
         ensures { result ≡ kept_note self.now.run ingress }
@@ -192,8 +198,9 @@ impl Runs {
         run
     }
 
-    /// Notes that so many units were sent from an ingress, or the length of the run where they are more, and answers the number noted. A later note replaces an earlier one.
-    /// None comes exactly where no run is open, or the ingress has no grant in it.
+    /// Notes that so many units were sent from an ingress, or the length of the run where they are more, and answers
+    /// the number noted. A later note replaces an earlier one. None comes exactly where no run is open, or the ingress
+    /// has no grant in it.
     pub fn note(&mut self, ingress: u32, units: u64) -> Option<u64>
         requires { ingress < self.old.ports }
         ensures noted { result ≡ number_noted self.old.run ingress units }
@@ -214,8 +221,9 @@ impl Runs {
         Some(number)
     }
 
-    /// Closes the open run: each granted flow is credited with the number noted at its ingress, or with a unit for each slot. None comes exactly where no run is open.
-    /// The kept grants lose the credited units and are repaired; where something was noted, they are stale instead.
+    /// Closes the open run: each granted flow is credited with the number noted at its ingress, or with a unit for each
+    /// slot. None comes exactly where no run is open. The kept grants lose the credited units and are repaired; where
+    /// something was noted, they are stale instead.
     pub fn end(&mut self, flows: &[Flow], ledger: &mut Ledger) -> Option<OpenRun>
         requires fits { FitsOpen flows.now ledger.old.owed self.old.run }
         requires ingress_in_range { All (λ (x : Flow). x.ingress < self.old.ports) flows.now }

@@ -209,7 +209,8 @@ impl Standing {
         self.runs.grant_anew(&opening.table, self.line.coflows(), self.ledger.owed_all());
     }
 
-    /// The first flow, by number, of a present coflow that owes units. None comes exactly where no such flow owes. The kept grants are fresh: where they are of no flow, no flow is looked at.
+    /// The first flow, by number, of a present coflow that owes units. None comes exactly where no such flow owes. The
+    /// kept grants are fresh: where they are of no flow, no flow is looked at.
     fn first_flow_owing(&self, opening: &Opening) -> Option<u32>
         requires fit { IsFit opening.now self.now }
         requires fresh { self.now.runs.fresh ≡ true }
@@ -278,7 +279,8 @@ impl Standing {
     }
 }
 
-/// The room for so many coflows, over so many ports on each side: none has joined, and nothing is published. The error is want of memory.
+/// The room for so many coflows, over so many ports on each side: none has joined, and nothing is published. The error
+/// is want of memory.
 fn coflows_kept(alloc: Global, coflows: u32, ports: u32) -> Result<(Roster, Orders, Line), NoMemory>
     requires coflows_limit { coflows ≤ MAX_COFLOWS }
     requires has_ports { 1 ≤ ports }
@@ -305,7 +307,8 @@ fn coflows_kept(alloc: Global, coflows: u32, ports: u32) -> Result<(Roster, Orde
     Ok((roster, orders, line))
 }
 
-/// What the flows of a table owe, and the room for their runs: each owes all its units, and no run is open. The error is want of memory.
+/// What the flows of a table owe, and the room for their runs: each owes all its units, and no run is open. The error
+/// is want of memory.
 fn units_kept(alloc: Global, table: &Table) -> Result<(Ledger, Runs), NoMemory>
     ensures units { IfOk result (λ x. x.0.units ≡ map (λ (f : Flow). f.units) table.now.flows) }
     ensures owed { IfOk result (λ x. x.0.owed ≡ x.0.units) }

@@ -1,10 +1,12 @@
-//! Plays a list of commands to a master, or a list of steps to a world of interleavings. Prints each answer, and behind the last one what is told.
-//! Its arguments are the file of a trace, whose units are megabytes, and the file of the list.
+//! Plays a list of commands to a master, or a list of steps to a world of interleavings. Prints each answer, and behind
+//! the last one what is told. Its arguments are the file of a trace, whose units are megabytes, and the file of the
+//! list.
 //!
-//! The first line of the list says who plays, with a weight for each coflow of the trace: `master LIMIT WEIGHT..` is a master whose journal takes entries up to the limit,
-//! and `world LIMIT WEIGHT.. AGENTS` is a world of such a master and of so many agents.
-//! A line `CALLER WORD NUMBER..` behind it asks a command, and in a world a line `WORD NUMBER..` is a step of an agent or of the driver of runs. A line `tell` prints what is
-//! told at that point. Behind the last line a master also tells its closed runs, each with what it credits to its flows.
+//! The first line of the list says who plays, with a weight for each coflow of the trace: `master LIMIT WEIGHT..` is a
+//! master whose journal takes entries up to the limit, and `world LIMIT WEIGHT.. AGENTS` is a world of such a master
+//! and of so many agents. A line `CALLER WORD NUMBER..` behind it asks a command, and in a world a line `WORD NUMBER..`
+//! is a step of an agent or of the driver of runs. A line `tell` prints what is told at that point. Behind the last
+//! line a master also tells its closed runs, each with what it credits to its flows.
 //!
 //! The exit code is 0 where all lines were played, and 1 where a line is not such, or something else was wanting.
 #![tactic(auto)]

@@ -18,7 +18,8 @@ pub struct Setting {
     pub weights: Vec<u64>,
 }
 
-/// The limit and so many weights, which come next in the first line. The error is the first of them that is wanting or out of range, or want of memory.
+/// The limit and so many weights, which come next in the first line. The error is the first of them that is wanting or
+/// out of range, or want of memory.
 pub fn setting_of(
     alloc: Global,
     coflows: u32,

@@ -59,7 +59,8 @@ fn tell_ports(rt: &HostRuntime, master: &Master) -> io::Result<()> {
     Ok(())
 }
 
-/// Prints closed runs: the first slot and the number of slots of each, and what it credits to each flow that it granted.
+/// Prints closed runs: the first slot and the number of slots of each, and what it credits to each flow that it
+/// granted.
 pub(crate) fn tell_closed(rt: &HostRuntime, runs: &[CreditedRun]) -> io::Result<()> {
     for run in runs {
         println!(rt; "closed {} {}", run.first, run.slots)?;

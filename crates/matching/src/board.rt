@@ -17,7 +17,8 @@ pub struct Board {
 }
 
 impl Board {
-    /// Takes the room for so many ports on each side. Nothing is granted, and no port waits. The error is want of memory.
+    /// Takes the room for so many ports on each side. Nothing is granted, and no port waits. The error is want of
+    /// memory.
     pub fn with_room(alloc: Global, ports: u32) -> Result<Board, NoMemory>
         requires { ports + ports < 2 ^ 32 }
         ensures at { IfOk result (λ b. b.at.items ≡ replicate (ports + ports) no_rank) }
@@ -56,7 +57,8 @@ impl Board {
         }
     }
 
-    /// What stands at the port goes out at both of its ports, and its other port waits. The port is of either side. The board is one of these ranks.
+    /// What stands at the port goes out at both of its ports, and its other port waits. The port is of either side. The
+    /// board is one of these ranks.
     pub fn free(&mut self, ranks: &Ranks, port: u32)
         requires ranks { IsRanks ranks.now }
         requires board { IsBoard ranks.now.ports (graph_of ranks.now) self.old.at.items }
@@ -77,7 +79,8 @@ impl Board {
         self.waiting.push(flow.across(port));
     }
 
-    /// The rank goes in at both of its ports, where later ranks or none stood. What stood there goes out, and the other ports of that wait. The board is one of these ranks.
+    /// The rank goes in at both of its ports, where later ranks or none stood. What stood there goes out, and the other
+    /// ports of that wait. The board is one of these ranks.
     pub fn put(&mut self, ranks: &Ranks, rank: u32)
         requires ranks { IsRanks ranks.now }
         requires board { IsBoard ranks.now.ports (graph_of ranks.now) self.old.at.items }

@@ -1,4 +1,5 @@
-//! Grants that are kept from run to run: where a flow ends, they are repaired at its ports alone, or row by row where many flows end at once.
+//! Grants that are kept from run to run: where a flow ends, they are repaired at its ports alone, or row by row where
+//! many flows end at once.
 #![tactic(auto)]
 
 mod anew;

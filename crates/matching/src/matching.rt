@@ -11,15 +11,19 @@ use coflow_units::{Flow, NoMemory};
 use std::alloc::Global;
 use std::marker::Model;
 
-/// The grants of a line of coflows, kept while the granted flows lose units: each flow of the line that owes is granted, or shares a port with a granted one that comes before it.
+/// The grants of a line of coflows, kept while the granted flows lose units: each flow of the line that owes is
+/// granted, or shares a port with a granted one that comes before it.
 ///
-/// A change of grants is a repair, and not a new pass over all flows. Where a flow ends, its two ports wait for a look. A look at a port finds the first flow there that owes
-/// and comes before what is granted at both of its ports. That flow is granted, and what it displaces leaves its other port waiting. When no port waits, the grants are those of the line.
-/// Where many flows end at once, one pass over the flows from the first of them on takes less time: in each row of flows that begin at one port, the first that owes and finds its other port free is granted.
-/// So displaced proposals are repaired in deferred acceptance (Gale and Shapley, "College admissions and the stability of marriage", The American Mathematical Monthly 69, 1962),
-/// with one order of all flows in place of each side's own.
+/// A change of grants is a repair, and not a new pass over all flows. Where a flow ends, its two ports wait for a look.
+/// A look at a port finds the first flow there that owes and comes before what is granted at both of its ports. That
+/// flow is granted, and what it displaces leaves its other port waiting. When no port waits, the grants are those of
+/// the line. Where many flows end at once, one pass over the flows from the first of them on takes less time: in each
+/// row of flows that begin at one port, the first that owes and finds its other port free is granted. So displaced
+/// proposals are repaired in deferred acceptance (Gale and Shapley, "College admissions and the stability of marriage",
+/// The American Mathematical Monthly 69, 1962), with one order of all flows in place of each side's own.
 ///
-/// Contracts see a `Matching` as its tables; `IsMatching` and `IsSettled` say which flows, line and units left they are tables of. No call but `with_room` takes memory.
+/// Contracts see a `Matching` as its tables; `IsMatching` and `IsSettled` say which flows, line and units left they are
+/// tables of. No call but `with_room` takes memory.
 #[derive(Drop)]
 pub struct Matching {
     tables: Tables,
@@ -38,7 +42,8 @@ impl Model for Matching {
 }
 
 impl Matching {
-    /// Takes all memory that the grants of so many flows on a fabric of `ports` ports on each side will ever need. Nothing is granted yet. The error is want of memory.
+    /// Takes all memory that the grants of so many flows on a fabric of `ports` ports on each side will ever need.
+    /// Nothing is granted yet. The error is want of memory.
     pub fn with_room(alloc: Global, flows: u32, ports: u32) -> Result<Matching, NoMemory>
         requires { ports + ports < 2 ^ 32 }
         ensures room { IfOk result (λ m. room_of m ≡ flows) }
@@ -51,7 +56,8 @@ impl Matching {
 
     /// Begins anew with the coflows of the line and the units that each flow has left, and grants.
     ///
-    /// `starts` has for each coflow the number of its first flow, and the number of flows at its end. A coflow that `line` leaves out has no grant.
+    /// `starts` has for each coflow the number of its first flow, and the number of flows at its end. A coflow that
+    /// `line` leaves out has no grant.
     pub fn begin(&mut self, flows: &[Flow], starts: &[u32], line: &[u32], left: &[u64])
         requires starts { IsStarts flows.now starts.now }
         requires distinct { IsDistinct line.now }
@@ -93,7 +99,8 @@ impl Matching {
         self.tables.listing.flows.len() as u32
     }
 
-    /// The flow that is granted at an ingress. None comes exactly where none is granted there, or the ingress is none of the fabric's.
+    /// The flow that is granted at an ingress. None comes exactly where none is granted there, or the ingress is none
+    /// of the fabric's.
     pub fn at(&self, ingress: u32) -> Option<u32>
         ensures { (f : ℕ) → (result ≡ Some f) ↔ IsGrantedAt self.now ingress f }
     {
@@ -101,7 +108,8 @@ impl Matching {
         flow
     }
 
-    /// For how many slots the grants may be served as they are: the least units left among them, and 0 where nothing is granted.
+    /// For how many slots the grants may be served as they are: the least units left among them, and 0 where nothing is
+    /// granted.
     pub fn least_left(&self) -> u64
         ensures { (flows : List Flow) (line : List ℕ) (left : ℕ → ℕ) → IsSettled flows line left self.now →
             IsLeastLeft left (listed_in self.now) result }
@@ -110,7 +118,8 @@ impl Matching {
         least
     }
 
-    /// The flow that is granted at an ingress loses so many units, or all that it has. Where none are left, it is not granted any longer. `repair` is due then.
+    /// The flow that is granted at an ingress loses so many units, or all that it has. Where none are left, it is not
+    /// granted any longer. `repair` is due then.
     pub fn take(&mut self, ingress: u32, units: u64)
         requires { ingress < ports_of self.old }
         ensures matching { (flows : List Flow) (line : List ℕ) (left lower : ℕ → ℕ) (f : ℕ) →
@@ -123,7 +132,8 @@ impl Matching {
         self.tables.take(ingress, units);
     }
 
-    /// Each granted flow loses so many units, or all that it has. Where none are left, it is not granted any longer. `repair` is due then.
+    /// Each granted flow loses so many units, or all that it has. Where none are left, it is not granted any longer.
+    /// `repair` is due then.
     pub fn take_run(&mut self, units: u64)
         ensures matching { (flows : List Flow) (line : List ℕ) (left lower : ℕ → ℕ) →
             IsSettled flows line left self.old → IsRunLess left lower (listed_in self.old) units →

@@ -73,8 +73,9 @@ impl Ranks {
         })
     }
 
-    /// Ranks the flows of the line that owe. `starts` has for each coflow the number of its first flow, and the number of flows at its end.
-    /// `line` has the coflows in their order, each at most once, and `left` the units that each flow has left.
+    /// Ranks the flows of the line that owe. `starts` has for each coflow the number of its first flow, and the number
+    /// of flows at its end. `line` has the coflows in their order, each at most once, and `left` the units that each
+    /// flow has left.
     pub fn rank(&mut self, flows: &[Flow], starts: &[u32], line: &[u32], left: &[u64])
         requires starts { IsStarts flows.now starts.now }
         requires distinct { IsDistinct line.now }

@@ -10,7 +10,8 @@ use std::alloc::Global;
 /// How many words a row may have at most where rows are passed.
 pub const WORDS: usize = 32;
 
-/// Ranks that follow one another are in one row where they begin at one port, and the ports at which they end rise. The first ranks have rows, as far as the room goes.
+/// Ranks that follow one another are in one row where they begin at one port, and the ports at which they end rise. The
+/// first ranks have rows, as far as the room goes.
 #[derive(Drop)]
 pub struct Rows {
     /// How many words of 64 ports a row has.
@@ -28,7 +29,8 @@ pub struct Rows {
 }
 
 impl Rows {
-    /// Takes the room for so many flows and for so many ports on each side: a word for each flow. No rank has a row. The error is want of memory.
+    /// Takes the room for so many flows and for so many ports on each side: a word for each flow. No rank has a row.
+    /// The error is want of memory.
     pub fn with_room(alloc: Global, flows: u32, ports: u32) -> Result<Rows, NoMemory>
         ensures shaped { IfOk result (λ x. IsShaped ports x) }
         ensures none { IfOk result (λ x. (x.count ≡ 0) × (x.ranked ≡ 0)) }
@@ -176,7 +178,8 @@ impl Rows {
         self.owes[word] &= !(1 << (across % 64));
     }
 
-    /// The first port of the second side, counted from 0, that is free and to which a rank of the row owes. `free` has a bit for each such port, 64 in one word, which is 1 where it is free.
+    /// The first port of the second side, counted from 0, that is free and to which a rank of the row owes. `free` has
+    /// a bit for each such port, 64 in one word, which is 1 where it is free.
     pub fn least_free(&self, row: u32, free: &[u64]) -> Option<u32>
         requires row { row < length self.now.first.items }
         requires words { length self.now.owes.items ≡ length self.now.first.items * self.now.width }

@@ -91,7 +91,8 @@ impl Tables {
         self.repair();
     }
 
-    /// Lays the tables out for the flows of the line and the units that they have left. Nothing is granted, and every port waits.
+    /// Lays the tables out for the flows of the line and the units that they have left. Nothing is granted, and every
+    /// port waits.
     fn lay_out(&mut self, flows: &[Flow], starts: &[u32], line: &[u32], left: &[u64])
         requires whole { IsWhole self.old }
         requires starts { IsStarts flows.now starts.now }
@@ -199,7 +200,8 @@ impl Tables {
         self.take_rank(rank, units);
     }
 
-    /// Each granted flow loses so many units. Ports of flows that end wait so that the first of them is looked at first, which keeps the looks few.
+    /// Each granted flow loses so many units. Ports of flows that end wait so that the first of them is looked at
+    /// first, which keeps the looks few.
     pub fn take_run(&mut self, units: u64)
         requires whole { IsWhole self.old }
         ensures whole { IsWhole self.new }
@@ -296,7 +298,8 @@ impl Tables {
         }
     }
 
-    /// Where that leaves fewer looks, all ports of the first side wait in place of those of the second side that do: each flow that may be to be had has a port of the first side.
+    /// Where that leaves fewer looks, all ports of the first side wait in place of those of the second side that do:
+    /// each flow that may be to be had has a port of the first side.
     fn turn_to_first(&mut self)
         requires { IsSound self.old (λ p. Contains self.old.board.waiting.ports p) }
         ensures sound { IsSound self.new (λ p. Contains self.new.board.waiting.ports p) }

@@ -14,11 +14,11 @@ pub enum AnyReport {
     Online(Online),
 }
 
-/// The report whose text the bytes are. Their first line tells its kind: where it is `sincronia online 2` the report is that of an online run, and else that of a
-/// plan. There are at most 2^30 bytes.
+/// The report whose text the bytes are. Their first line tells its kind: where it is `sincronia online 2` the report is
+/// that of an online run, and else that of a plan. There are at most 2^30 bytes.
 ///
-/// `BadText` comes exactly where the bytes are the text of no report of that kind. Its line is the first one that no such text has after the lines before it.
-/// `NoMemory`, want of memory, may come in place of any answer.
+/// `BadText` comes exactly where the bytes are the text of no report of that kind. Its line is the first one that no
+/// such text has after the lines before it. `NoMemory`, want of memory, may come in place of any answer.
 pub fn read_any_report(alloc: Global, bytes: &[u8]) -> Result<AnyReport, ReportFault>
     requires few { length bytes.now ≤ MAX_REPORT }
     ensures report { GivesAnyReport bytes.now result }

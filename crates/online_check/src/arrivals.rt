@@ -7,8 +7,8 @@ use coflow_units::NoMemory;
 use flow_table::Table;
 use std::alloc::Global;
 
-/// The time in slots at which each coflow of a table arrives, by number, where a slot takes `slot_ms` milliseconds, at least one: its arrival in milliseconds over
-/// these, rounded up. The error is want of memory.
+/// The time in slots at which each coflow of a table arrives, by number, where a slot takes `slot_ms` milliseconds, at
+/// least one: its arrival in milliseconds over these, rounded up. The error is want of memory.
 pub fn arrivals_of(alloc: Global, table: &Table, slot_ms: u64) -> Result<Vec<u64>, NoMemory>
     requires some { 1 ≤ slot_ms }
     ensures arrivals { IfOk result (λ arrivals. arrivals.items ≡ arrivals_in table.now slot_ms) }

@@ -18,9 +18,10 @@ use online_text::Online;
 use port_load::Loads;
 use std::alloc::Global;
 
-/// Whether the text of an online run is right for the coflows of a table, with one weight for each, by number, of at most 2^32, and one arrival, a time in slots of at
-/// most 2^32. The loads are those of the table's flows. The online run is one that a text can state: it has at most 2^41 - 1 slots, each run has one slot or more and
-/// ascending flows, and neighbouring runs differ.
+/// Whether the text of an online run is right for the coflows of a table, with one weight for each, by number, of at
+/// most 2^32, and one arrival, a time in slots of at most 2^32. The loads are those of the table's flows. The online
+/// run is one that a text can state: it has at most 2^41 - 1 slots, each run has one slot or more and ascending flows,
+/// and neighbouring runs differ.
 ///
 /// `Yes` comes exactly where all of this holds, which `IsSoundOnline` says:
 ///
@@ -32,10 +33,11 @@ use std::alloc::Global;
 /// - the lines of completions are those of the coflows by number, and state their completions;
 /// - the cost is the sum over the coflows of weight times completion.
 ///
-/// Else the first reason comes, in the order of `OnlineReason`. The error is want of memory, which may come in place of any answer.
+/// Else the first reason comes, in the order of `OnlineReason`. The error is want of memory, which may come in place of
+/// any answer.
 ///
-/// Nothing that the text says is trusted. So a yes says that no schedule that serves nobody before its arrival costs less than the stated total, whoever made the text.
-/// It says nothing of the orders that were published.
+/// Nothing that the text says is trusted. So a yes says that no schedule that serves nobody before its arrival costs
+/// less than the stated total, whoever made the text. It says nothing of the orders that were published.
 pub fn check_online(
     alloc: Global,
     table: &Table,

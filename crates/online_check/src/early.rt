@@ -10,8 +10,8 @@ use coflow_units::{Flow, NoMemory};
 use run_list::Runs;
 use std::alloc::Global;
 
-/// The first slot that holds a flow of a coflow at or before its arrival, and the least such coflow in it. Arrivals go by coflow. It looks once at each flow of each
-/// run: where some slot of a run is early, its first one is.
+/// The first slot that holds a flow of a coflow at or before its arrival, and the least such coflow in it. Arrivals go
+/// by coflow. It looks once at each flow of each run: where some slot of a run is early, its first one is.
 ///
 /// The error is want of memory.
 pub(crate) fn first_early(

@@ -36,8 +36,9 @@ pub struct Judged {
     pub line: Vec<u8>,
 }
 
-/// The verdict on a report of either kind, for the coflows of a table, and its line. `weights` has the weight of each coflow, at most 2^32. A slot takes `slot_ms`
-/// milliseconds, at least one: coflows arrive at their milliseconds over these, rounded up, which the report of a plan says nothing of. The error is want of memory.
+/// The verdict on a report of either kind, for the coflows of a table, and its line. `weights` has the weight of each
+/// coflow, at most 2^32. A slot takes `slot_ms` milliseconds, at least one: coflows arrive at their milliseconds over
+/// these, rounded up, which the report of a plan says nothing of. The error is want of memory.
 pub fn judge(
     alloc: Global,
     table: &Table,
@@ -112,7 +113,8 @@ fn judge_online(
     }
 }
 
-/// The verdict on an online run, for the coflows of a table that arrive by slots of so many milliseconds: yes, or the first reason why it is not right.
+/// The verdict on an online run, for the coflows of a table that arrive by slots of so many milliseconds: yes, or the
+/// first reason why it is not right.
 fn online_verdict_on(
     alloc: Global,
     table: &Table,
@@ -142,8 +144,8 @@ fn online_verdict_on(
     Ok(verdict)
 }
 
-/// The verdict on the report of a plan, for the coflows of a table: yes, or the first reason why it is not right. `weights` has the weight of each
-/// coflow, at most 2^32. The error is want of memory.
+/// The verdict on the report of a plan, for the coflows of a table: yes, or the first reason why it is not right.
+/// `weights` has the weight of each coflow, at most 2^32. The error is want of memory.
 pub fn verdict_on(
     alloc: Global,
     table: &Table,

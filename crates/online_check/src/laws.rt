@@ -15,8 +15,8 @@ ghost use Rattle.std.specs.Prelude.{◌≡◌, ℕ, ◌≤◌, List, Bool};
 
 use release_bound::laws::released_is_bound;
 
-/// No valid schedule that serves nobody before its arrival costs less than the total that a right online run states, whoever made its text; and its own schedule is one
-/// of these, with the cost that it states.
+/// No valid schedule that serves nobody before its arrival costs less than the total that a right online run states,
+/// whoever made its text; and its own schedule is one of these, with the cost that it states.
 pub fn yes_bounds_released_schedules()
     ensures total { (i : Instance) (arrival : ℕ → ℕ) (ids : List ℕ) (o : Online) (slots : List (List ℕ)) →
         IsSoundOnline i arrival ids o → IsReleased i.flows arrival slots →

@@ -1,4 +1,5 @@
-//! A checker of the texts of online runs, by whomever made: it trusts nothing that they say, and answers yes, or the first reason why one is not right.
+//! A checker of the texts of online runs, by whomever made: it trusts nothing that they say, and answers yes, or the
+//! first reason why one is not right.
 #![tactic(auto)]
 
 mod any_report;

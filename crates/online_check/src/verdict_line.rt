@@ -10,8 +10,8 @@ use flow_table::Table;
 use report_text::Report;
 use std::alloc::Global;
 
-/// The line of a verdict on a report, with its line feed: `yes` and the stated totals, or `no` and the reason with its values. Coflows are told by their ids. The
-/// error is want of memory.
+/// The line of a verdict on a report, with its line feed: `yes` and the stated totals, or `no` and the reason with its
+/// values. Coflows are told by their ids. The error is want of memory.
 pub fn verdict_text(
     alloc: Global,
     table: &Table,

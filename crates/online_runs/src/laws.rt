@@ -1,4 +1,5 @@
-//! Laws of online runs. Each says something of every opening of a master, every list of arrivals and every length of epochs.
+//! Laws of online runs. Each says something of every opening of a master, every list of arrivals and every length of
+//! epochs.
 ghost use Rattle.std.specs.Prelude.{◌≡◌, ℕ, ◌+◌, ◌*◌, ◌^◌, ◌≤◌, true, List, [], All, length, slice_index};
 ghost use Rattle.std.specs.List.{slice_index_or};
 ghost use Rattle.coflow_units.specs.declared.limits.TheConstants.{MAX_UNITS};
@@ -26,7 +27,8 @@ use epochs::laws::action_is_one;
 use online_check::laws::{online_verdict_is_one, yes_bounds_released_schedules};
 use release_bound::laws::released_ordering_is_feasible;
 
-/// The bound of a publishing is at most the cost of every valid schedule of what is left there, in slots counted from its time.
+/// The bound of a publishing is at most the cost of every valid schedule of what is left there, in slots counted from
+/// its time.
 pub fn publishings_have_bounds()
     ensures { (o : Opening) (before : List Entry) (slots : List (List ℕ)) → IsOpening o →
         IsValid (left_at o before).flows slots →
@@ -54,8 +56,8 @@ pub fn online_runs_serve_all()
         IsReleased o.table.flows (slice_index arrivals) (schedule_of o journal) }
 {}
 
-/// An online run has few entries: four for each coflow, two for each flow, and three for each of the 8192 orders that may
-/// be published, and two. And few slots pass: up to the last arrival, and then as many as there may be units.
+/// An online run has few entries: four for each coflow, two for each flow, and three for each of the 8192 orders that
+/// may be published, and two. And few slots pass: up to the last arrival, and then as many as there may be units.
 pub fn online_runs_are_short()
     ensures entries { (o : Opening) (arrivals : List ℕ) (every : ℕ) (deeds : List Deed) →
         IsOnlineInput o arrivals every → IsOnlineSoFar o arrivals every deeds →
@@ -65,8 +67,8 @@ pub fn online_runs_are_short()
         time_of o (journal_of deeds) ≤ 2 ^ 32 + MAX_UNITS }
 {}
 
-/// There is one online run at most, and none that ends where more orders would be published than may be. What one served
-/// so far is part of what it serves to the end.
+/// There is one online run at most, and none that ends where more orders would be published than may be. What one
+/// served so far is part of what it serves to the end.
 pub fn online_runs_are_one()
     ensures one { (o : Opening) (arrivals : List ℕ) (every : ℕ) (a b : List Entry) → IsOnlineRun o arrivals every a →
         IsOnlineRun o arrivals every b → a ≡ b }
@@ -80,9 +82,9 @@ pub fn online_runs_are_one()
     action_is_one();
 }
 
-/// What an online run says is right, as the checker of online runs defines it, so the checker's verdict on it is yes; the
-/// checker finds coflows by their ids, so ids must differ. Its total is at most the cost of every schedule that serves
-/// nobody before its arrival.
+/// What an online run says is right, as the checker of online runs defines it, so the checker's verdict on it is yes;
+/// the checker finds coflows by their ids, so ids must differ. Its total is at most the cost of every schedule that
+/// serves nobody before its arrival.
 pub fn online_run_is_right()
     ensures sound { (o : Opening) (arrivals : List ℕ) (every : ℕ) (x : Online) → IsOnlineInput o arrivals every →
         IsDistinct o.table.ids → IsOnlineOf o arrivals every x →

@@ -10,7 +10,8 @@ use online_text::Epoch;
 use schedule_model::Schedule;
 use std::alloc::Global;
 
-/// How many slots have passed, the units that each flow and each coflow still owes, which coflows are present, the publishings, and the schedule.
+/// How many slots have passed, the units that each flow and each coflow still owes, which coflows are present, the
+/// publishings, and the schedule.
 #[derive(Drop)]
 pub struct Progress {
     pub time: u64,

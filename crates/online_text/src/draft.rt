@@ -13,8 +13,9 @@ use run_list::Runs;
 use std::alloc::Global;
 use std::mem;
 
-/// The line that comes next: the first one; that of a publishing or what follows on the publishings; that of a place of the order or the bound; that of a completion or the
-/// cost; that of a place of the released certificate or the total; that of a run or the last one; or none.
+/// The line that comes next: the first one; that of a publishing or what follows on the publishings; that of a place of
+/// the order or the bound; that of a completion or the cost; that of a place of the released certificate or the total;
+/// that of a run or the last one; or none.
 #[derive(Clone, Copy, Debug, PartialEq, Eq)]
 pub(crate) enum Stage {
     First,

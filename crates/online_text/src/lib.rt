@@ -1,4 +1,5 @@
-//! The text of an online run: the orders that were published, the schedule as it was served, and the bound that knows arrivals.
+//! The text of an online run: the orders that were published, the schedule as it was served, and the bound that knows
+//! arrivals.
 #![tactic(auto)]
 
 mod draft;

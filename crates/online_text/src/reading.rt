@@ -10,10 +10,12 @@ use std::alloc::Global;
 
 /// The online run whose text the bytes are. There are at most 2^30 bytes.
 ///
-/// Each online run has one text, which `write_online` gives, and no other spelling is read: words are separated by one space, each line ends with one line feed, numbers
-/// are decimal without leading zeros, places are counted from 1 in each list of them, the times of the publishings rise, and nothing follows the last line. `BadText`
-/// comes exactly where the bytes are the text of no online run. Its line is the first one that no such text has after the lines before it. A text that is cut short is
-/// refused at the first line that it does not have whole. `NoMemory`, want of memory, may come in place of any answer.
+/// Each online run has one text, which `write_online` gives, and no other spelling is read: words are separated by one
+/// space, each line ends with one line feed, numbers are decimal without leading zeros, places are counted from 1 in
+/// each list of them, the times of the publishings rise, and nothing follows the last line. `BadText` comes exactly
+/// where the bytes are the text of no online run. Its line is the first one that no such text has after the lines
+/// before it. A text that is cut short is refused at the first line that it does not have whole. `NoMemory`, want of
+/// memory, may come in place of any answer.
 pub fn read_online(alloc: Global, bytes: &[u8]) -> Result<Online, ReportFault>
     requires few { length bytes.now ≤ MAX_REPORT }
     ensures report { GivesOnline bytes.now result }

@@ -2,8 +2,8 @@
 use coflow_units::{Items, Port};
 use run_list::Runs;
 
-/// One place of an order that was published: the coflow's id, the port that the place charges, and what it charges for each unit of load that is left, in parts of
-/// 2^40 of a weight of 1.
+/// One place of an order that was published: the coflow's id, the port that the place charges, and what it charges for
+/// each unit of load that is left, in parts of 2^40 of a weight of 1.
 #[derive(Clone, Copy, Debug, PartialEq, Eq)]
 pub struct OnlinePlace {
     pub id: u32,
@@ -11,7 +11,8 @@ pub struct OnlinePlace {
     pub y: u128,
 }
 
-/// A publishing: its time in slots, the places of the order, first place first, and the lower bound on the cost of what was left, in slots counted from that time.
+/// A publishing: its time in slots, the places of the order, first place first, and the lower bound on the cost of what
+/// was left, in slots counted from that time.
 #[derive(Drop)]
 pub struct Epoch {
     pub time: u64,
@@ -26,8 +27,8 @@ pub struct DoneLine {
     pub slot: u64,
 }
 
-/// One place of the released certificate: the coflow's id, the port that the place charges, what it charges for each unit of load, and what the coflow pays for each
-/// slot up to its earliest end, in parts of 2^40 of a weight of 1.
+/// One place of the released certificate: the coflow's id, the port that the place charges, what it charges for each
+/// unit of load, and what the coflow pays for each slot up to its earliest end, in parts of 2^40 of a weight of 1.
 #[derive(Clone, Copy, Debug, PartialEq, Eq)]
 pub struct ReleaseLine {
     pub id: u32,
@@ -36,8 +37,8 @@ pub struct ReleaseLine {
     pub z: u128,
 }
 
-/// An online run: its publishings in the order of time, the completions of the coflows, the cost, the released certificate, first place first, with its total, and
-/// the schedule as runs of equal slots.
+/// An online run: its publishings in the order of time, the completions of the coflows, the cost, the released
+/// certificate, first place first, with its total, and the schedule as runs of equal slots.
 #[derive(Drop)]
 pub struct Online {
     pub epochs: Items<Epoch>,

@@ -11,10 +11,11 @@ use std::alloc::Global;
 
 /// The text of an online run.
 ///
-/// Words are separated by one space, each line ends with one line feed, and numbers are decimal without leading zeros. The lines are `sincronia online 2`; for each
-/// publishing `epoch T`, for each place `place K ID SIDE PORT Y` with K counting from 1, and `bound B`; for each coflow `done ID SLOT`; `cost C`; for each place of
-/// the released certificate `release K ID SIDE PORT Y Z` with K counting from 1; `total B`; for each run `run LENGTH FLOW FLOW ...`; and `end`. The lines of the runs and
-/// the last one are made when the text is written.
+/// Words are separated by one space, each line ends with one line feed, and numbers are decimal without leading zeros.
+/// The lines are `sincronia online 2`; for each publishing `epoch T`, for each place `place K ID SIDE PORT Y` with K
+/// counting from 1, and `bound B`; for each coflow `done ID SLOT`; `cost C`; for each place of the released certificate
+/// `release K ID SIDE PORT Y Z` with K counting from 1; `total B`; for each run `run LENGTH FLOW FLOW ...`; and `end`.
+/// The lines of the runs and the last one are made when the text is written.
 ///
 /// The error is want of memory.
 pub fn write_online(alloc: Global, online: Online) -> Result<Text, NoMemory>

@@ -10,7 +10,8 @@ use indexmap::IndexMap;
 use std::alloc::Global;
 use std::marker::Model;
 
-/// The number of a coflow for each id of a table: that of the first coflow with the id. Contracts see the ids, by number.
+/// The number of a coflow for each id of a table: that of the first coflow with the id. Contracts see the ids, by
+/// number.
 #[derive(Drop)]
 pub(crate) struct Coflows<'a> {
     table: &'a Table,
@@ -41,7 +42,8 @@ impl<'a> Coflows<'a> {
         Ok(Coflows { table, numbers })
     }
 
-    /// The number of the first coflow that has this id, which is told as 2^64 - 1 where it is greater. Ids have 32 bits.
+    /// The number of the first coflow that has this id, which is told as 2^64 - 1 where it is greater. Ids have 32
+    /// bits.
     pub(crate) fn number(&self, id: u64) -> Option<u32>
         ensures number { (n : ℕ) → id ≡ capped n → result ≡ position (λ x. x == n) self.now }
         ensures short { IfSome result (λ _. id < 2 ^ 32) }

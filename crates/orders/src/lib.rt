@@ -1,4 +1,5 @@
-//! Orders of coflows, read from a text. The order is the one that the text says, or the first fault in reading order is told.
+//! Orders of coflows, read from a text. The order is the one that the text says, or the first fault in reading order is
+//! told.
 #![tactic(auto)]
 
 mod coflows;

@@ -125,8 +125,8 @@ impl<R: Files + Drop> Shelf for DiskShelf<R> {
         }
     }
 
-    /// Reads from the file at the place. Where it tells its bytes: hands on the first that it has left, and none only at
-    /// its end. What stands at the other places is as before.
+    /// Reads from the file at the place. Where it tells its bytes: hands on the first that it has left, and none only
+    /// at its end. What stands at the other places is as before.
     fn read(&mut self, place: Place4, buffer: &mut [u8]) -> Result<usize, Failed>
         requires room { 0 < length buffer.old }
         requires started { at_place (is_some self.old.trace) (is_some self.old.weights) (is_some self.old.report)

@@ -125,7 +125,8 @@ pub(crate) fn next_fails(calls: &mut u64, fails: &[u32]) -> bool
     fails.iter().any(|call| u64::from(*call) == number)
 }
 
-/// Adds one to the count of all faults and to that of a file, and leaves the counts of other files. Counts end at 2^64 - 1.
+/// Adds one to the count of all faults and to that of a file, and leaves the counts of other files. Counts end at 2^64
+/// - 1.
 pub(crate) fn raise(files: &mut [File], counts: &mut Counts, number: usize)
     ensures all { counts.new.all ≡ min (counts.old.all + 1) (2 ^ 64 - 1) }
     ensures grows { counts.old.all ≤ counts.new.all }

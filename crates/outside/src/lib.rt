@@ -1,4 +1,5 @@
-//! The world outside of the program: shelves of files that are read, sinks that take a text, and wires that take the units of a port. Each has a count of faults, and each fault that a call answers raised it.
+//! The world outside of the program: shelves of files that are read, sinks that take a text, and wires that take the
+//! units of a port. Each has a count of faults, and each fault that a call answers raised it.
 #![tactic(auto)]
 
 mod count_wire;

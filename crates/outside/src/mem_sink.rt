@@ -18,7 +18,8 @@ pub struct MemSink {
 }
 
 impl MemSink {
-    /// A sink with room for `room` bytes. With `fail_after` it takes that many bytes in all and then fails. A full room is a fault. The error is want of memory.
+    /// A sink with room for `room` bytes. With `fail_after` it takes that many bytes in all and then fails. A full room
+    /// is a fault. The error is want of memory.
     pub fn new(alloc: Global, room: usize, fail_after: Option<u64>) -> Result<MemSink, NoMemory>
         ensures taken { IfOk result (λ s. s.taken.items ≡ []) }
         ensures limit { IfOk result (λ s. s.limit ≡ limit room fail_after) }

@@ -19,7 +19,8 @@ pub struct MemWire {
 }
 
 impl MemWire {
-    /// A wire with room for `room` runs. Unit number `fail_at`, counted from 1 over all units sent, is not accepted, once; with 0, as with none, no unit fails. A full room is a fault. The error is want of memory.
+    /// A wire with room for `room` runs. Unit number `fail_at`, counted from 1 over all units sent, is not accepted,
+    /// once; with 0, as with none, no unit fails. A full room is a fault. The error is want of memory.
     pub fn new(alloc: Global, room: usize, fail_at: Option<u64>) -> Result<MemWire, NoMemory>
         ensures runs { IfOk result (λ w. w.runs.items ≡ []) }
         ensures room { IfOk result (λ w. w.room ≡ room) }
@@ -74,7 +75,8 @@ impl Wire for MemWire {
 
     ghost runs = { λ w. Some w.runs.items };
 
-    /// Accepts what comes before the unit that fails, and nothing where the room is full. The count rises by one, up to 2^64 - 1, exactly where not all units were accepted.
+    /// Accepts what comes before the unit that fails, and nothing where the room is full. The count rises by one, up to
+    /// 2^64 - 1, exactly where not all units were accepted.
     fn send(&mut self, slot: u64, flow: u32, length: u64) -> u64
         requires { 1 ≤ length }
         ensures later { self.old.faults ≤ self.new.faults }

@@ -42,7 +42,9 @@ impl From<AllocError> for ReadStop {
 
 /// Reads what is left at a started place to its end: at most `most` bytes.
 ///
-/// `Fault` comes only where the shelf's count of faults rose, and that of the name at the place where it is told. `TooLong` comes exactly where `most + 1` bytes were taken. The first fault of the shelf is the last call: `Fault` raises the count by one, up to 2^64 - 1, and any other answer leaves it as it was.
+/// `Fault` comes only where the shelf's count of faults rose, and that of the name at the place where it is told.
+/// `TooLong` comes exactly where `most + 1` bytes were taken. The first fault of the shelf is the last call: `Fault`
+/// raises the count by one, up to 2^64 - 1, and any other answer leaves it as it was.
 pub fn read_all<H: Shelf>(
     alloc: Global,
     shelf: &mut H,

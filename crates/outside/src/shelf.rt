@@ -29,7 +29,10 @@ pub trait Shelf {
 
     /// Sets a name at a place, so that the bytes under the name are read there from their start.
     ///
-    /// `Failed` comes only where the count of faults rose, and that of the name where it is told. The place is then not started. A call that succeeds leaves the count of faults as it was, and one that fails raises it by one, up to 2^64 - 1, where it stops. The same holds of the counts of the files, where they are told: that of this file alone changes.
+    /// `Failed` comes only where the count of faults rose, and that of the name where it is told. The place is then not
+    /// started. A call that succeeds leaves the count of faults as it was, and one that fails raises it by one, up to
+    /// 2^64 - 1, where it stops. The same holds of the counts of the files, where they are told: that of this file
+    /// alone changes.
     fn start(&mut self, place: Place4, name: &str) -> Result<(), Failed>
         ensures later { faults self.old ≤ faults self.new }
         ensures cause { OnErr result (Rose (faults self.old) (faults self.new)) }
@@ -39,9 +42,13 @@ pub trait Shelf {
         ensures others { SameElsewhere place (started self.old) (started self.new) }
         ensures told { Starts (told self.old) (told self.new) place name.now result };
 
-    /// Moves the first bytes that are left at a place into the buffer, and answers how many. It answers 0 where nothing is left.
+    /// Moves the first bytes that are left at a place into the buffer, and answers how many. It answers 0 where nothing
+    /// is left.
     ///
-    /// `Failed` comes only where the count of faults rose, and that of the name at the place where it is told. The place is then as it was. A call that succeeds leaves the count of faults as it was, and one that fails raises it by one, up to 2^64 - 1, where it stops. The same holds of the counts of the files, where they are told: that of this file alone changes.
+    /// `Failed` comes only where the count of faults rose, and that of the name at the place where it is told. The
+    /// place is then as it was. A call that succeeds leaves the count of faults as it was, and one that fails raises it
+    /// by one, up to 2^64 - 1, where it stops. The same holds of the counts of the files, where they are told: that of
+    /// this file alone changes.
     fn read(&mut self, place: Place4, buffer: &mut [u8]) -> Result<usize, Failed>
         requires room { 0 < length buffer.old }
         requires started { started self.old place ≡ true }

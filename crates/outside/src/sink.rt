@@ -17,7 +17,9 @@ pub trait Sink {
 
     /// Takes the first bytes of the piece, and answers how many.
     ///
-    /// `Failed` comes only where the count of faults rose. A sink that takes nothing of a piece that is not empty has failed. A call that succeeds leaves the count of faults as it was, and one that fails raises it by one, up to 2^64 - 1, where it stops.
+    /// `Failed` comes only where the count of faults rose. A sink that takes nothing of a piece that is not empty has
+    /// failed. A call that succeeds leaves the count of faults as it was, and one that fails raises it by one, up to
+    /// 2^64 - 1, where it stops.
     fn write(&mut self, piece: &[u8]) -> Result<usize, Failed>
         ensures later { faults self.old ≤ faults self.new }
         ensures cause { OnErr result (Rose (faults self.old) (faults self.new)) }

@@ -51,7 +51,8 @@ impl<W: Write + Drop> Sink for StdSink<W> {
 
     ghost taken = { λ _. None };
 
-    /// Writes to the writer. An answer of 0 for a piece that is not empty is a fault. Where the writer tells its bytes: it took the first ones of the piece, as many as the answer says, and none at a fault.
+    /// Writes to the writer. An answer of 0 for a piece that is not empty is a fault. Where the writer tells its bytes:
+    /// it took the first ones of the piece, as many as the answer says, and none at a fault.
     fn write(&mut self, piece: &[u8]) -> Result<usize, Failed>
         ensures later { self.old.faults ≤ self.new.faults }
         ensures cause { OnErr result (Rose self.old.faults self.new.faults) }

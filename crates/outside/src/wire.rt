@@ -11,7 +11,8 @@ pub trait Wire {
     /// The runs accepted so far, where they are told: the first slot, the flow, and the number of units.
     ghost runs: { Self → Option (List (ℕ × ℕ × ℕ)) };
 
-    /// Sends units of a flow, one in each of `length` slots from `slot` on, and answers how many were accepted, from the front.
+    /// Sends units of a flow, one in each of `length` slots from `slot` on, and answers how many were accepted, from
+    /// the front.
     ///
     /// Fewer than `length` are accepted only where the count of faults rose.
     fn send(&mut self, slot: u64, flow: u32, length: u64) -> u64

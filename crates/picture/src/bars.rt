@@ -15,10 +15,12 @@ use coflow_units::Flow;
 use run_list::Runs;
 use std::alloc::Global;
 
-/// The bars that a schedule has in a window: for each port of the window's side, from 0 up to `ports`, the longest stretches of the window's slots in which
-/// the port serves one coflow, ascending. Slots count from 1. A window without slots has no bars.
+/// The bars that a schedule has in a window: for each port of the window's side, from 0 up to `ports`, the longest
+/// stretches of the window's slots in which the port serves one coflow, ascending. Slots count from 1. A window without
+/// slots has no bars.
 ///
-/// The schedule is given as runs, and it may be any in which no port serves two flows in one slot. It has at most `MAX_SLOT` slots, and the flows' ports are below `ports`.
+/// The schedule is given as runs, and it may be any in which no port serves two flows in one slot. It has at most
+/// `MAX_SLOT` slots, and the flows' ports are below `ports`.
 ///
 /// `TooMany` says how many bars there would be, where they are more than `MAX_BARS`. `NoMemory` is want of memory.
 pub fn bars_of(

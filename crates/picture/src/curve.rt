@@ -7,8 +7,8 @@ use crate::value::Step;
 use coflow_units::NoMemory;
 use std::alloc::Global;
 
-/// The curve of coflows that are completed in the given slots: a step for each slot in which one is completed, ascending, with how many are completed by then.
-/// A coflow without flows is completed in slot 0.
+/// The curve of coflows that are completed in the given slots: a step for each slot in which one is completed,
+/// ascending, with how many are completed by then. A coflow without flows is completed in slot 0.
 ///
 /// `NoMemory` is want of memory.
 pub fn curve_of(alloc: Global, ends: &[u64]) -> Result<Vec<Step>, NoMemory>

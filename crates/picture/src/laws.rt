@@ -69,7 +69,8 @@ pub fn words_can_be_read()
         (luminance (ink_on colour) + 1200000 ≤ luminance colour) }
 {}
 
-/// A text tells one list of bars: two pictures with the same text have the same bars at the same ports, with coflows of the same ids.
+/// A text tells one list of bars: two pictures with the same text have the same bars at the same ports, with coflows of
+/// the same ids.
 pub fn text_has_one_list_of_bars()
     ensures { (p q : Picture) → IsDrawable p → IsDrawable q → HasSmallIds p → HasSmallIds q →
         picture_text p ≡ picture_text q → told_bars p ≡ told_bars q }

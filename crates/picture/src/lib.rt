@@ -1,4 +1,5 @@
-//! A plan as a picture: the bars of each port, which are the longest stretches of slots in which it serves one coflow, and the curve of completed coflows.
+//! A plan as a picture: the bars of each port, which are the longest stretches of slots in which it serves one coflow,
+//! and the curve of completed coflows.
 #![tactic(auto)]
 
 mod axes;

@@ -23,13 +23,15 @@ use std::alloc::Global;
 
 /// Draws the picture that the words ask for, and writes it to the sink.
 ///
-/// The words are `TRACE REPORT`, and options before, between or behind them, each at most once: `--weights FILE` and `--unit MEGABYTES` as for `sincronia check`;
-/// `--from SLOT` and `--to SLOT`, the first and the last slot that are shown, which are those of the schedule without them; `--side in` or `--side out`, whose
-/// ports are shown, ingress ports without it; and
-/// `--slot-ms MILLISECONDS`, from 1 to 2^20, by which the coflows of an online run arrive, 8 without it.
+/// The words are `TRACE REPORT`, and options before, between or behind them, each at most once: `--weights FILE` and
+/// `--unit MEGABYTES` as for `sincronia check`; `--from SLOT` and `--to SLOT`, the first and the last slot that are
+/// shown, which are those of the schedule without them; `--side in` or `--side out`, whose ports are shown, ingress
+/// ports without it; and `--slot-ms MILLISECONDS`, from 1 to 2^20, by which the coflows of an online run arrive, 8
+/// without it.
 ///
-/// The trace, the weights and the report are read in this order, and the first fault ends the job. The report is that of a plan or of an online run, and it is checked as
-/// `sincronia check` does it. The picture of an online run shows no ports, so the side is nothing to it.
+/// The trace, the weights and the report are read in this order, and the first fault ends the job. The report is that
+/// of a plan or of an online run, and it is checked as `sincronia check` does it. The picture of an online run shows no
+/// ports, so the side is nothing to it.
 ///
 /// The statuses are:
 /// - `Ok`: the picture was written whole.
@@ -39,10 +41,12 @@ use std::alloc::Global;
 /// - `TooManyBars`: the report is right, and there would be so many bars.
 /// - `Ended`: as `sincronia check` ends before it writes, or at a fault of the sink, or where no memory was to be had.
 ///
-/// Nothing was written but at `Ok`, and at a fault of the sink, where a beginning of the picture was written. The files on the shelf are as before, and at every status but
-/// `Usage`, those that come before the check and want of memory each of them was read to its end. Where they are told and good, the status is the one that their report calls for;
-/// only a fault of shelf or sink and want of memory may come in its place. The shelf's count of faults rises by one at a fault of the shelf, and the sink's at a fault of the sink,
-/// each up to 2^64 - 1, and neither does at any other status.
+/// Nothing was written but at `Ok`, and at a fault of the sink, where a beginning of the picture was written. The files
+/// on the shelf are as before, and at every status but `Usage`, those that come before the check and want of memory
+/// each of them was read to its end. Where they are told and good, the status is the one that their report calls for;
+/// only a fault of shelf or sink and want of memory may come in its place. The shelf's count of faults rises by one at
+/// a fault of the shelf, and the sink's at a fault of the sink, each up to 2^64 - 1, and neither does at any other
+/// status.
 pub fn sincronia_picture<H: Shelf, K: Sink>(
     alloc: Global,
     words: &[String],

@@ -1,4 +1,5 @@
-//! The program that draws plans: from the words of a command line and the bytes of a trace and a report to the bytes of a picture.
+//! The program that draws plans: from the words of a command line and the bytes of a trace and a report to the bytes of
+//! a picture.
 #![tactic(auto)]
 
 mod command;

@@ -15,11 +15,13 @@ pub enum PictureStatus {
     No,
     /// The words are no command.
     Usage,
-    /// The window has no slot: its first slot is behind its last one, or behind the last one of the schedule. So it is where the schedule has no slot.
+    /// The window has no slot: its first slot is behind its last one, or behind the last one of the schedule. So it is
+    /// where the schedule has no slot.
     NoSlots { first: u64, last: u64 },
     /// The window has so many bars, more than are drawn.
     TooManyBars { bars: u64 },
-    /// The job ended as one of `sincronia` does: a file gave no trace, no weights or no report, the shelf or the sink failed, or no memory was to be had.
+    /// The job ended as one of `sincronia` does: a file gave no trace, no weights or no report, the shelf or the sink
+    /// failed, or no memory was to be had.
     Ended(Status),
 }
 

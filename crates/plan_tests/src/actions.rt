@@ -58,8 +58,8 @@ fn follow(rt: &impl Abort, alloc: Global, second: u64, every: u64, rows: &[Row])
     drop(epochs);
 }
 
-/// The first coflow has 6 units, the second 1 unit, at the same ports. The second arrives at time 2, and goes first from
-/// the epoch at 4 on.
+/// The first coflow has 6 units, the second 1 unit, at the same ports. The second arrives at time 2, and goes first
+/// from the epoch at 4 on.
 #[test]
 fn late_coflow_is_ordered_at_the_next_epoch(rt: HostRuntime) {
     const ROWS: &[Row] = &[
@@ -76,8 +76,8 @@ fn late_coflow_is_ordered_at_the_next_epoch(rt: HostRuntime) {
     follow(&rt, rt.alloc(), 2, 4, ROWS);
 }
 
-/// The first coflow is served at time 1, and leaves before the epoch at 2 is published. At time 4 nobody owes anything, so
-/// nobody leaves.
+/// The first coflow is served at time 1, and leaves before the epoch at 2 is published. At time 4 nobody owes anything,
+/// so nobody leaves.
 #[test]
 fn served_coflow_leaves_before_a_publishing(rt: HostRuntime) {
     const ROWS: &[Row] = &[

@@ -42,8 +42,9 @@ fn rows_go_with_their_rankers(rt: HostRuntime) {
     }
 }
 
-/// Rankers are asked twice, told of each coflow once, and dropped. Where memory is wanting in the middle, those that were asked are dropped, and the others are on the bench: `checks/refused_in_tests.py` refuses one
-/// allocation after another.
+/// Rankers are asked twice, told of each coflow once, and dropped. Where memory is wanting in the middle, those that
+/// were asked are dropped, and the others are on the bench: `checks/refused_in_tests.py` refuses one allocation after
+/// another.
 #[test]
 fn rankers_are_counted(rt: HostRuntime) {
     let alloc = rt.alloc();

@@ -1,6 +1,6 @@
-//! Tests of tables, runs, schedules, served orders, rankers and epochs. That their definitions give what was worked out by hand
-//! is said by laws for some rows; here are more of them, and that a call that may answer want of memory answers where memory is
-//! there. Flows are told by their traces.
+//! Tests of tables, runs, schedules, served orders, rankers and epochs. That their definitions give what was worked out
+//! by hand is said by laws for some rows; here are more of them, and that a call that may answer want of memory answers
+//! where memory is there. Flows are told by their traces.
 #![tactic(auto)]
 
 #[cfg(test)]

@@ -113,7 +113,8 @@ const ORDERS: &[(&[u32], &str)] = &[
     (&[0, 1, 2], "16 false [1, 8, 7]"),
 ];
 
-/// The weights and an order of two coflows, whether the first slot is idle, and what is told of the schedule that serves the shorter one first.
+/// The weights and an order of two coflows, whether the first slot is idle, and what is told of the schedule that
+/// serves the shorter one first.
 type Shorter = (&'static [u64], &'static [u32], bool, &'static str);
 
 const SHORTER: &[Shorter] = &[

@@ -68,7 +68,8 @@ fn runs_told(rt: &impl Abort, alloc: Global, runs: &Runs) -> String {
 /// Two coflows whose flows meet at each port.
 const TIES: &str = "1 2\n1 0 2 0 1 1 0:2\n2 0 2 0 1 1 1:2\n";
 
-/// A trace, how many megabytes a unit has, an order of its coflows, and the runs that serve it, as they were worked out by hand.
+/// A trace, how many megabytes a unit has, an order of its coflows, and the runs that serve it, as they were worked out
+/// by hand.
 type Row = (&'static str, u64, &'static [u32], &'static str);
 
 const ROWS: &[Row] = &[

@@ -1,4 +1,5 @@
-//! Numbers of schedules: what is told of coflows, their durations by group, and the texts. Each row was worked out by hand.
+//! Numbers of schedules: what is told of coflows, their durations by group, and the texts. Each row was worked out by
+//! hand.
 ghost use Rattle.std.specs.Prelude.{◌≡◌, ◌≤◌, All, IfSome, IsTrue};
 ghost use Rattle.coflow_stats.specs.declared.value.Finished.{Finished};
 ghost use Rattle.coflow_units.specs.declared.limits.TheConstants.{MAX_SLOT_MS, MAX_WEIGHT};
@@ -13,7 +14,8 @@ use std::alloc::Global;
 use std::process::Abort;
 use std::str::from_utf8;
 
-/// How numbers are told: the megabytes of a unit, the milliseconds of a slot, or 0 where they are not given, and what is known of the schedule.
+/// How numbers are told: the megabytes of a unit, the milliseconds of a slot, or 0 where they are not given, and what
+/// is known of the schedule.
 #[derive(Clone, Copy)]
 struct Telling {
     unit: u64,
@@ -174,7 +176,8 @@ fn numbers_and_their_text(rt: HostRuntime) {
     }
 }
 
-/// How many coflows, which are completed in the slots from 1 to that number, and the mean and the ranks of their completions.
+/// How many coflows, which are completed in the slots from 1 to that number, and the mean and the ranks of their
+/// completions.
 const RANKS: &[(u64, &str)] = &[
     (1, "1 mean 1.000 median 1 p95 1 p99 1"),
     (2, "2 mean 1.500 median 1 p95 2 p99 2"),

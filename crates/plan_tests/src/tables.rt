@@ -5,7 +5,8 @@ use flow_table::Table;
 use std::alloc::Global;
 use std::process::Abort;
 
-/// The fault of a trace, where a unit has so many megabytes, or its coflows and flows, as a copy of the table tells them.
+/// The fault of a trace, where a unit has so many megabytes, or its coflows and flows, as a copy of the table tells
+/// them.
 fn told(rt: &impl Abort, alloc: Global, trace: &str, unit: u64) -> String {
     match built(rt, alloc, trace, unit) {
         Ok(table) => shown_of_copy(rt, alloc, table),
@@ -97,8 +98,9 @@ fn units_of_megabytes(rt: HostRuntime) {
     expect_all(&rt, rt.alloc(), ROWS);
 }
 
-/// The first mappers send what is left over, a location that stands again sends again, each reducer is shared by itself, what goes to one location is one flow, and where
-/// nothing is sent there is no flow. In all rows but the last one a coflow stands before and behind one without units.
+/// The first mappers send what is left over, a location that stands again sends again, each reducer is shared by
+/// itself, what goes to one location is one flow, and where nothing is sent there is no flow. In all rows but the last
+/// one a coflow stands before and behind one without units.
 #[test]
 fn mappers_share_units(rt: HostRuntime) {
     const ROWS: &[Row] = &[

@@ -33,7 +33,8 @@ ghost use Rattle.plans.specs.ServedReport.{IsServedReport};
 ghost use Rattle.plans.specs.Totals.{BoundsEverySchedule, IsWithinFour};
 ghost use Rattle.plans.specs.Weighed.{IsWeighed};
 
-/// No valid schedule costs less than the bound of the ordering certificate, and the schedule that serves its order costs at most four times that bound and the slack.
+/// No valid schedule costs less than the bound of the ordering certificate, and the schedule that serves its order
+/// costs at most four times that bound and the slack.
 pub fn plan_is_within_four()
     ensures bound { (i : Instance) (entries : List Entry) (slots : List (List ℕ)) → IsOrdering i entries →
         IsValid i.flows slots → bound i.flows entries ≤ cost i.flows i.weight i.coflows slots }
@@ -59,7 +60,8 @@ pub fn plan_slack_is_small()
         r.slack ≤ 2 * length t.ids) }
 {}
 
-/// The laws hold of a worked certificate and order: two flows served in the order of their numbers, with a certificate that charges nothing.
+/// The laws hold of a worked certificate and order: two flows served in the order of their numbers, with a certificate
+/// that charges nothing.
 pub fn laws_hold_without_prices()
     ensures four { cost two_flows one_each (0 ∷ 1 ∷ []) longer_first_slots ≤ 4 * bound two_flows no_prices +
         slack two_flows one_each no_prices }
@@ -68,8 +70,8 @@ pub fn laws_hold_without_prices()
         load_of_all two_flows (up_to (0 ∷ 1 ∷ []) 1) (egress_port two_flows 1) }
 {}
 
-/// The plan of a table is right as the checker of reports defines it, so the checker's verdict on it is yes. The checker finds coflows by their ids, so ids must differ;
-/// those of the table of a trace do.
+/// The plan of a table is right as the checker of reports defines it, so the checker's verdict on it is yes. The
+/// checker finds coflows by their ids, so ids must differ; those of the table of a trace do.
 pub fn plan_is_right()
     ensures sound { (t : TableFacts) (weights : List ℕ) (r : Report) → IsWeighed t weights → IsDistinct t.ids →
         IsPlanOf (instance_of t weights) t.ids r → IsSound (instance_of t weights) t.ids r }
@@ -80,8 +82,8 @@ pub fn plan_is_right()
         IsDistinct t.ids }
 {}
 
-/// The plan of a table is a report that a text can have, and its numbers fit their types where the ids do. So a reader of its text answers it, where there is memory,
-/// and where ids differ the verdict on what was read is yes.
+/// The plan of a table is a report that a text can have, and its numbers fit their types where the ids do. So a reader
+/// of its text answers it, where there is memory, and where ids differ the verdict on what was read is yes.
 pub fn plan_is_read_back()
     ensures report { (t : TableFacts) (weights : List ℕ) (r : Report) → IsWeighed t weights →
         IsPlanOf (instance_of t weights) t.ids r → IsReport r }
@@ -98,8 +100,8 @@ pub fn plan_is_read_back()
         GivesReport (report_text r) (Err (BadText line)) → ⊥ }
 {}
 
-/// The text of the report of a plan has at most 200 bytes, 200 more for each coflow and 50 more for each unit: each slot serves a flow, and no unit is served twice, so the runs have
-/// no more flows together than there are units.
+/// The text of the report of a plan has at most 200 bytes, 200 more for each coflow and 50 more for each unit: each
+/// slot serves a flow, and no unit is served twice, so the runs have no more flows together than there are units.
 pub fn plan_text_is_short()
     ensures { (t : TableFacts) (weights : List ℕ) (r : Report) → IsWeighed t weights → All (λ id. id < 2 ^ 32) t.ids →
         IsPlanOf (instance_of t weights) t.ids r →
@@ -111,8 +113,8 @@ pub fn served_report_bounds_every_schedule()
     ensures { (i : Instance) (ids line : List ℕ) (r : Report) → IsServedReport i ids line r → BoundsEverySchedule i r }
 {}
 
-/// Where ids differ, a checker finds the report of a given order right but for the ratio: its verdict is yes, or that the cost is more than four times the bound and the slack.
-/// Where the cost is no more than that, it is yes.
+/// Where ids differ, a checker finds the report of a given order right but for the ratio: its verdict is yes, or that
+/// the cost is more than four times the bound and the slack. Where the cost is no more than that, it is yes.
 pub fn served_report_is_right_but_for_the_ratio()
     ensures verdict { (t : TableFacts) (weights line : List ℕ) (r : Report) (verdict : Verdict) → IsWeighed t weights →
         IsDistinct t.ids → IsServedReport (instance_of t weights) t.ids line r →
@@ -123,7 +125,8 @@ pub fn served_report_is_right_but_for_the_ratio()
         IsVerdict (instance_of t weights) t.ids r verdict → verdict ≡ Yes }
 {}
 
-/// The report of a given order is one that a text can have, and its numbers fit their types where the ids do. So a reader of its text answers it, where there is memory.
+/// The report of a given order is one that a text can have, and its numbers fit their types where the ids do. So a
+/// reader of its text answers it, where there is memory.
 pub fn served_report_is_read_back()
     ensures report { (t : TableFacts) (weights line : List ℕ) (r : Report) → IsWeighed t weights →
         IsServedReport (instance_of t weights) t.ids line r → IsReport r }

@@ -1,4 +1,5 @@
-//! Reports of plans, and of orders that are given: from a table of flows and weights to a report, its text, and the laws that hold of every such report.
+//! Reports of plans, and of orders that are given: from a table of flows and weights to a report, its text, and the
+//! laws that hold of every such report.
 #![tactic(auto)]
 
 pub mod laws;

@@ -19,10 +19,10 @@ use report_text::Report;
 use schedule_model::{Schedule, completions, cost_of};
 use std::alloc::Global;
 
-/// The report of the plan of the coflows of a table, from the places of the order by bottleneck, select, scale, iterate and the schedule
-/// that serves it: the places with their completions, the bound and slack of the order's certificate, the cost, and the
-/// runs of the schedule. A text can have the report, so it may be written and read back. `weights` has the weight of each
-/// coflow, from 1 to 2^32. The error is want of memory.
+/// The report of the plan of the coflows of a table, from the places of the order by bottleneck, select, scale, iterate
+/// and the schedule that serves it: the places with their completions, the bound and slack of the order's certificate,
+/// the cost, and the runs of the schedule. A text can have the report, so it may be written and read back. `weights`
+/// has the weight of each coflow, from 1 to 2^32. The error is want of memory.
 pub fn report_of(
     alloc: Global,
     table: &Table,
@@ -109,8 +109,8 @@ fn values_of(
     Ok(Values { bound, slack })
 }
 
-/// The bound that the plan has, found without its schedule: no valid schedule costs less. `weights` has the weight of each
-/// coflow, at most 2^32. The error is want of memory.
+/// The bound that the plan has, found without its schedule: no valid schedule costs less. `weights` has the weight of
+/// each coflow, at most 2^32. The error is want of memory.
 pub fn bound_of(alloc: Global, table: &Table, weights: &[u64]) -> Result<u128, NoMemory>
     requires count { length weights.now ≡ length table.now.ids }
     requires weights { All (λ w. w ≤ MAX_WEIGHT) weights.now }

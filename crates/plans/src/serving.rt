@@ -14,11 +14,13 @@ use report_text::Report;
 use slot_switch::simulate;
 use std::alloc::Global;
 
-/// The report of an order of the coflows of a table that somebody gave: the places of the plan's certificate with the completions of the schedule that serves
-/// the given order, the plan's bound and slack, and the cost and the runs of that schedule. So the bound is at most the cost of every valid schedule, and the cost
-/// over the bound tells how far the given order may be from the best. A text can have the report, so it may be written and read back.
+/// The report of an order of the coflows of a table that somebody gave: the places of the plan's certificate with the
+/// completions of the schedule that serves the given order, the plan's bound and slack, and the cost and the runs of
+/// that schedule. So the bound is at most the cost of every valid schedule, and the cost over the bound tells how far
+/// the given order may be from the best. A text can have the report, so it may be written and read back.
 ///
-/// `order` has the number of each coflow once, first served first, and `weights` the weight of each coflow, from 1 to 2^32. The error is want of memory.
+/// `order` has the number of each coflow once, first served first, and `weights` the weight of each coflow, from 1 to
+/// 2^32. The error is want of memory.
 pub fn report_of_order(
     alloc: Global,
     table: &Table,

@@ -61,7 +61,8 @@ impl Agent {
         seat
     }
 
-    /// Tries once to draw at each port from `first` on, one for each wire. What it draws it sends on the wire of the port, and reports how much the wire accepted.
+    /// Tries once to draw at each port from `first` on, one for each wire. What it draws it sends on the wire of the
+    /// port, and reports how much the wire accepted.
     ///
     /// The seat is of this board, which has at least `first` ports and one more for each wire.
     pub fn serve<W: Wire>(&mut self, board: &PortBoard, first: u32, wires: &mut [W]) -> Served
@@ -90,9 +91,11 @@ impl Agent {
         served
     }
 
-    /// Tries once to draw at a port. What it draws it sends on the wire of the port, and reports how much the wire accepted.
+    /// Tries once to draw at a port. What it draws it sends on the wire of the port, and reports how much the wire
+    /// accepted.
     ///
-    /// The seat is of this board, which has the port. The answer is the length of the grant that was drawn and the units that the wire accepted, both in units of the grants; it is none where nothing was drawn.
+    /// The seat is of this board, which has the port. The answer is the length of the grant that was drawn and the
+    /// units that the wire accepted, both in units of the grants; it is none where nothing was drawn.
     pub fn serve_port<W: Wire>(
         &mut self,
         board: &PortBoard,

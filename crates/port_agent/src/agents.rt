@@ -11,9 +11,11 @@ use port_board::{PortBoard, Poster};
 use std::sync::Wait;
 use std::thread::{Threads, join_mut};
 
-/// So many new agents, which were shown all posts of the poster, serve the ports beside each other, each on a thread of its own, and come back.
+/// So many new agents, which were shown all posts of the poster, serve the ports beside each other, each on a thread of
+/// its own, and come back.
 ///
-/// There is one wire for each port that is to be served, from port 0 on, in units of the grants. The list of seats is empty and has room for the agents. No memory is taken.
+/// There is one wire for each port that is to be served, from port 0 on, in units of the grants. The list of seats is
+/// empty and has room for the agents. No memory is taken.
 pub fn serve_run<R: Threads + Sync, W: Wire + Send>(
     rt: &R,
     board: &PortBoard,

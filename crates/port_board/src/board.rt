@@ -31,7 +31,8 @@ mod tests;
 
 /// A word and a count word for each ingress port, which any number of threads share.
 ///
-/// One poster grants flows at the ports. Each grant is drawn by at most one agent, which reports how many units it sent, and the poster settles it.
+/// One poster grants flows at the ports. Each grant is drawn by at most one agent, which reports how many units it
+/// sent, and the poster settles it.
 #[derive(Drop)]
 pub struct PortBoard {
     table: ObservedTable<(), View, u64, Ports, Global>,
@@ -109,7 +110,8 @@ impl PortBoard {
 
     /// Takes back the seat of an agent that holds no drawn grant, with its lists of drawn and of missed grants.
     ///
-    /// It looks at the word of port 0 alone, whatever stands there, so that the poster learns what its lists say of one another.
+    /// It looks at the word of port 0 alone, whatever stands there, so that the poster learns what its lists say of one
+    /// another.
     pub fn back(&self, poster: &mut Poster, seat: AgentSeat)
         requires own { (poster.old.at ≡ self.now.id) × (seat.at ≡ self.now.id) }
         requires reported { seat.view.out ≡ [] }
@@ -136,7 +138,8 @@ impl PortBoard {
 
     /// Grants `length` units of a flow at a port, one in each slot from `slot` on.
     ///
-    /// The port has no unsettled post, and the slot is above that of its last post, or above 0 where it has none. It is below 2^41, the flow is below 2^20, and the length is from 1 to 2^41.
+    /// The port has no unsettled post, and the slot is above that of its last post, or above 0 where it has none. It is
+    /// below 2^41, the flow is below 2^20, and the length is from 1 to 2^41.
     pub fn post(&self, poster: &mut Poster, port: u32, slot: u64, flow: u32, length: u64)
         requires own { poster.old.at ≡ self.now.id }
         requires port { port < self.now.ports }
@@ -175,7 +178,8 @@ impl PortBoard {
     /// grant, with its flow and its length. The grant may also be newer than all posts that the seat was shown: that it
     /// was posted so is then known to the poster alone, and `back` tells it.
     ///
-    /// Where nothing is drawn, the last post of the port that the seat has seen goes on its list of missed grants, unless it stands in one of its lists.
+    /// Where nothing is drawn, the last post of the port that the seat has seen goes on its list of missed grants,
+    /// unless it stands in one of its lists.
     pub fn draw(&self, seat: &mut AgentSeat, port: u32) -> Draw
         requires own { seat.old.at ≡ self.now.id }
         requires port { port < self.now.ports }
@@ -302,7 +306,8 @@ impl PortBoard {
         shared.store::<Reports>(&mut seat.place, port as usize, word);
     }
 
-    /// Settles the unsettled post of a port: takes the grant back where nobody drew it, or reads the number that its agent reported.
+    /// Settles the unsettled post of a port: takes the grant back where nobody drew it, or reads the number that its
+    /// agent reported.
     pub fn settle(&self, poster: &mut Poster, port: u32) -> Settled
         requires own { poster.old.at ≡ self.now.id }
         requires port { port < self.now.ports }

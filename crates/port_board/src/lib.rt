@@ -1,4 +1,5 @@
-//! Grants on the words of ports: a poster grants a flow at a port, any of several agents draws the grant by one exchange and reports how much it sent, and the poster settles it.
+//! Grants on the words of ports: a poster grants a flow at a port, any of several agents draws the grant by one
+//! exchange and reports how much it sent, and the poster settles it.
 #![tactic(auto)]
 
 mod answer;

@@ -7,9 +7,11 @@ use coflow_units::NoMemory;
 use std::alloc::Global;
 use std::marker::Model;
 
-/// A number for each row and column. Room is reserved for all blocks of 64 columns of a row, but a block is written only once a number is set in it.
+/// A number for each row and column. Room is reserved for all blocks of 64 columns of a row, but a block is written
+/// only once a number is set in it.
 ///
-/// Contracts see `Cells` as the numbers of rows and columns, the blocks, and their numbers; `cells_in` lists the cells row by row.
+/// Contracts see `Cells` as the numbers of rows and columns, the blocks, and their numbers; `cells_in` lists the cells
+/// row by row.
 #[derive(Drop)]
 pub(crate) struct Cells {
     rows: usize,

@@ -18,7 +18,8 @@ struct Pending {
 }
 
 impl Loads {
-    /// Does what `fill` does, where the flows stand coflow by coflow, those of each coflow from its start on: the flows of coflows that are not present are not looked at.
+    /// Does what `fill` does, where the flows stand coflow by coflow, those of each coflow from its start on: the flows
+    /// of coflows that are not present are not looked at.
     pub fn fill_by_coflow(&mut self, flows: &[Flow], starts: &[u32], left: &[u64], present: &[bool])
         requires within { IsWithin flows.now self.old.coflows self.old.ports }
         requires left_len { length left.now ≡ length flows.now }
@@ -43,8 +44,8 @@ impl Loads {
         }
     }
 
-    /// Adds the loads of a coflow that has none yet, from the units that its flows have left. Flows that follow each other at one ingress port are added there
-    /// together.
+    /// Adds the loads of a coflow that has none yet, from the units that its flows have left. Flows that follow each
+    /// other at one ingress port are added there together.
     fn add_coflow(&mut self, flows: &[Flow], starts: &[u32], left: &[u64], coflow: u32)
         requires within { IsWithin flows.now self.old.coflows self.old.ports }
         requires left_len { length left.now ≡ length flows.now }
@@ -86,8 +87,8 @@ impl Loads {
         self.add_pending(coflow, pending);
     }
 
-    /// Adds the units of a flow at its egress port. At its ingress port they are pending, together with what was pending there; what was pending at another
-    /// port is added.
+    /// Adds the units of a flow at its egress port. At its ingress port they are pending, together with what was
+    /// pending there; what was pending at another port is added.
     fn add_next(&mut self, pending: Pending, flow: Flow) -> Pending
         requires coflow_in { flow.coflow < self.old.coflows }
         requires ingress_in { flow.ingress < self.old.ports }

@@ -6,7 +6,8 @@ ghost use Rattle.coflow_units.specs.Flows.{IsDistinct};
 ghost use Rattle.coflow_units.specs.Load.{load_of_all};
 ghost use Rattle.port_load.specs.LoadTable.{DropsAll, HasLoads, LoadTable, flows_without};
 
-/// After any list of coflows was dropped, the table has the loads of the flows of the others, as if it had been filled without the dropped ones.
+/// After any list of coflows was dropped, the table has the loads of the flows of the others, as if it had been filled
+/// without the dropped ones.
 pub fn drops_are_anew()
     ensures { (flows : List Flow) (old new : LoadTable) (dropped : List ℕ) → HasLoads flows old →
         DropsAll old new dropped → HasLoads (flows_without dropped flows) new }

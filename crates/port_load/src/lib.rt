@@ -1,4 +1,5 @@
-//! The loads of coflows on the ports of the fabric: a table that is filled from flows, and from which coflows are taken away.
+//! The loads of coflows on the ports of the fabric: a table that is filled from flows, and from which coflows are taken
+//! away.
 #![tactic(auto)]
 
 mod cells;

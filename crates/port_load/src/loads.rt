@@ -46,7 +46,8 @@ impl Model for Loads {
 }
 
 impl Loads {
-    /// The loads of the flows. Coflows count from 0 to `coflows`, at most 4096 of them, and the ports of a side from 0 to `ports`, from 1 to 1025 of them. The units of the flows sum to at most 2^62. The error is want of memory.
+    /// The loads of the flows. Coflows count from 0 to `coflows`, at most 4096 of them, and the ports of a side from 0
+    /// to `ports`, from 1 to 1025 of them. The units of the flows sum to at most 2^62. The error is want of memory.
     pub fn of(alloc: Global, flows: &[Flow], coflows: u32, ports: u32) -> Result<Loads, NoMemory>
         requires coflows_limit { coflows ≤ MAX_COFLOWS }
         requires has_ports { 1 ≤ ports }
@@ -66,7 +67,8 @@ impl Loads {
         Ok(loads)
     }
 
-    /// Computes the loads anew: each flow of a present coflow counts with the units that it has left, one number in `left` for each flow and one mark in `present` for each coflow.
+    /// Computes the loads anew: each flow of a present coflow counts with the units that it has left, one number in
+    /// `left` for each flow and one mark in `present` for each coflow.
     pub fn fill(&mut self, flows: &[Flow], left: &[u64], present: &[bool])
         requires within { IsWithin flows.now self.old.coflows self.old.ports }
         requires left_len { length left.now ≡ length flows.now }
@@ -148,8 +150,8 @@ impl Loads {
         }
     }
 
-    /// The first coflow, from a number on, that has load on the port, or the number of coflows where there is none. A walk along a port costs a step for 64
-    /// coflows, and one for each that has load, or had it when it was dropped.
+    /// The first coflow, from a number on, that has load on the port, or the number of coflows where there is none. A
+    /// walk along a port costs a step for 64 coflows, and one for each that has load, or had it when it was dropped.
     pub fn next_loaded(&self, port: Port, from: u32) -> u32
         requires port_in { port.number < self.now.ports }
         requires from_in { from ≤ self.now.coflows }
@@ -229,7 +231,8 @@ impl Loads {
         are_zeros(&self.totals)
     }
 
-    /// Takes the loads of all coflows away, coflow by coflow along its marks, so that the room that was written stays in use.
+    /// Takes the loads of all coflows away, coflow by coflow along its marks, so that the room that was written stays
+    /// in use.
     fn drop_all(&mut self)
         ensures size { IsSameSize self.old self.new }
         ensures none { (coflow : ℕ) (port : Port) → coflow < self.old.coflows → port.number < self.old.ports →
@@ -320,7 +323,8 @@ fn row_of(port: Port, ports: u32) -> usize
     }
 }
 
-/// Clears a column, and takes each cell from the total of its row. The marks tell in which rows of the column a number may be.
+/// Clears a column, and takes each cell from the total of its row. The marks tell in which rows of the column a number
+/// may be.
 fn clear_column(cells: &mut Cells, totals: &mut [u64], rows_of: &Marks, column: usize)
     requires column_in { column < cells.old.columns }
     requires rows { cells.old.rows ≡ length totals.old }

@@ -63,7 +63,8 @@ impl Marks {
         self.words[word] |= 1 << (column % 64);
     }
 
-    /// The first column of the row, from one on, that may be marked: no column before it is. The number of columns, where there is none.
+    /// The first column of the row, from one on, that may be marked: no column before it is. The number of columns,
+    /// where there is none.
     pub(crate) fn next(&self, row: usize, from: usize) -> usize
         requires row_in { row < self.now.rows }
         requires from_in { from ≤ self.now.columns }

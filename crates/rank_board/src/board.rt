@@ -27,7 +27,8 @@ type Steps = ObservedTable<(), View, u64, Banks, Global>;
 
 /// The ranks of a fixed number of coflows, which any number of threads read while one publisher replaces them.
 ///
-/// Each version is written beside the one before it, and then the front names it. A rank has its version in its word, so a reader knows which version it read.
+/// Each version is written beside the one before it, and then the front names it. A rank has its version in its word,
+/// so a reader knows which version it read.
 #[derive(Drop)]
 pub struct RankBoard {
     table: Steps,
@@ -74,7 +75,8 @@ impl Publisher {
     }
 }
 
-/// The seat of a reader. Contracts see the greatest version that it has seen, its pulls, and its looks: the words that it loaded, each with its place.
+/// The seat of a reader. Contracts see the greatest version that it has seen, its pulls, and its looks: the words that
+/// it loaded, each with its place.
 #[derive(Drop)]
 pub struct RankSeat {
     place: Place,
@@ -180,11 +182,12 @@ impl RankBoard {
         publisher.version = version;
     }
 
-    /// Reads the rank of a coflow, by a load of the front and, once something is published, a load of the coflow's word in that version.
+    /// Reads the rank of a coflow, by a load of the front and, once something is published, a load of the coflow's word
+    /// in that version.
     ///
-    /// `Rank` and `Unranked` have the version of the front, and the seat keeps the pull with its mark.
-    /// `Unranked` comes exactly where the front is 0 or the word has its version and rank 0.
-    /// `Moved` comes only where the word has a later version, whose front was raised or will be next; the seat keeps no pull.
+    /// `Rank` and `Unranked` have the version of the front, and the seat keeps the pull with its mark. `Unranked` comes
+    /// exactly where the front is 0 or the word has its version and rank 0. `Moved` comes only where the word has a
+    /// later version, whose front was raised or will be next; the seat keeps no pull.
     pub fn pull(&self, seat: &mut RankSeat, coflow: u32, mark: u32) -> Pulled
         requires own { seat.old.table ≡ self.now.table }
         requires coflow { coflow < self.now.coflows }

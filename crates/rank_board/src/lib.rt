@@ -1,4 +1,5 @@
-//! Ranks that any number of threads read without waiting, while one publisher replaces them all at once. A read tells the version that its rank was published with.
+//! Ranks that any number of threads read without waiting, while one publisher replaces them all at once. A read tells
+//! the version that its rank was published with.
 #![tactic(auto)]
 
 mod board;

@@ -1,4 +1,5 @@
-//! Compares a ranker of one's own, `lifo`, with two that the library has, on a trace of four coflows and three ports a side. It prints the text of the comparison.
+//! Compares a ranker of one's own, `lifo`, with two that the library has, on a trace of four coflows and three ports a
+//! side. It prints the text of the comparison.
 #![tactic(auto)]
 
 ghost use Rattle.std.specs.Prelude.{IfOk};

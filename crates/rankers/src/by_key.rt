@@ -6,8 +6,10 @@ ghost use Rattle.rankers.specs.ByKey.{by_key, key_in, key_then_number};
 
 /// Fills `out` with the numbers from 0 on, by their keys, and those of one key by number.
 ///
-/// It is for rankers of one's own that go by one number of each coflow, the least first: `rank` fills its `out` with it. `keys` has the key of each coflow by number. A coflow past the end of the keys has the key 0,
-/// and keys past the last coflow are not looked at. `out` has one place for each coflow; what stood there is written over. It takes no memory. Contracts call such an order `by_key`.
+/// It is for rankers of one's own that go by one number of each coflow, the least first: `rank` fills its `out` with
+/// it. `keys` has the key of each coflow by number. A coflow past the end of the keys has the key 0, and keys past the
+/// last coflow are not looked at. `out` has one place for each coflow; what stood there is written over. It takes no
+/// memory. Contracts call such an order `by_key`.
 ///
 /// A ranker that puts the first deadline first:
 ///

@@ -17,9 +17,11 @@ use schedule_model::{completions, cost_of};
 use slot_switch::simulate;
 use std::alloc::Global;
 
-/// The text of the coflows of a table in classes, from 1 to 64 of them, and of the schedule that serves the class order.
+/// The text of the coflows of a table in classes, from 1 to 64 of them, and of the schedule that serves the class
+/// order.
 ///
-/// The order by bottleneck, select, scale, iterate is folded into the classes, by count or by load. There is a weight for each coflow, at most 2^32. The error is want of memory.
+/// The order by bottleneck, select, scale, iterate is folded into the classes, by count or by load. There is a weight
+/// for each coflow, at most 2^32. The error is want of memory.
 pub fn classes_text(
     alloc: Global,
     table: &Table,

@@ -13,10 +13,12 @@ use coflow_units::NoMemory;
 use flow_table::Table;
 use std::alloc::Global;
 
-/// The rows of the rankers of a bench, two for each: what its first answer is worth, and its second one. The facts are those of the table with the weights, and there are fewer than 2^32 rankers.
+/// The rows of the rankers of a bench, two for each: what its first answer is worth, and its second one. The facts are
+/// those of the table with the weights, and there are fewer than 2^32 rankers.
 ///
-/// Each ranker in turn is asked; where its answer has each coflow once, it is told the completions in the schedule that serves it, by completion and then by number; then it is
-/// asked again, and dropped. So on success the bench is empty, and a row depends on its own ranker and the facts alone. The error is want of memory: the rankers that were asked
+/// Each ranker in turn is asked; where its answer has each coflow once, it is told the completions in the schedule that
+/// serves it, by completion and then by number; then it is asked again, and dropped. So on success the bench is empty,
+/// and a row depends on its own ranker and the facts alone. The error is want of memory: the rankers that were asked
 /// are gone, and those that were not reached are still on the bench, as they were and in their order.
 pub fn compare(
     alloc: Global,

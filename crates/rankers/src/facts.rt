@@ -25,7 +25,8 @@ const PARTS: u128 = 18_446_744_073_709_551_616;
 /// The ratio of a coflow of weight 0, above that of each coflow that has a weight: 2^105.
 const NO_RATIO: u128 = 40_564_819_207_303_340_847_894_502_572_032;
 
-/// What is known of the coflows of a table: their weights, arrivals and loads, and their order by bottleneck, select, scale, iterate. Coflows have the numbers from 0 on.
+/// What is known of the coflows of a table: their weights, arrivals and loads, and their order by bottleneck, select,
+/// scale, iterate. Coflows have the numbers from 0 on.
 #[derive(Drop)]
 pub struct Facts {
     weights: Vec<u64>,
@@ -78,8 +79,9 @@ impl Facts {
         })
     }
 
-    /// The facts anew, where the flows of a table have so many units left and these coflows are present: the loads of the others are 0, and weights and arrivals stay. `everyone` has the mark `true` for
-    /// each coflow, and `ordering` has room for all of them.
+    /// The facts anew, where the flows of a table have so many units left and these coflows are present: the loads of
+    /// the others are 0, and weights and arrivals stay. `everyone` has the mark `true` for each coflow, and `ordering`
+    /// has room for all of them.
     pub fn refill(
         &mut self,
         table: &Table,
@@ -153,7 +155,8 @@ impl Facts {
         self.bottlenecks[coflow as usize]
     }
 
-    /// The greatest load of a coflow over its weight, in parts of 2^64, rounded down. A coflow of weight 0 has 2^105, and so has a number that is no coflow's.
+    /// The greatest load of a coflow over its weight, in parts of 2^64, rounded down. A coflow of weight 0 has 2^105,
+    /// and so has a number that is no coflow's.
     pub(crate) fn ratio(&self, coflow: u32) -> u128
         ensures ratio { result ≡ ratio_in self.now coflow }
         ensures within { result ≤ 2 ^ 105 }

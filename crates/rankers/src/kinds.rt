@@ -9,8 +9,8 @@ use crate::ranker::Ranker;
 use coflow_units::NoMemory;
 use std::alloc::Global;
 
-/// The order by bottleneck, select, scale, iterate (Agarwal, Rajakrishnan, Narayan, Agarwal, Shmoys and Vahdat, "Sincronia: near-optimal network design for
-/// coflows", SIGCOMM 2018). Its name is `bssi`.
+/// The order by bottleneck, select, scale, iterate (Agarwal, Rajakrishnan, Narayan, Agarwal, Shmoys and Vahdat,
+/// "Sincronia: near-optimal network design for coflows", SIGCOMM 2018). Its name is `bssi`.
 #[derive(Drop)]
 pub struct Bssi0;
 
@@ -30,8 +30,8 @@ impl Ranker for Bssi0 {
     fn note(&mut self, _coflow: u32, _slot: u64) {}
 }
 
-/// The smallest effective bottleneck first, and equal ones by number (Chowdhury, Zhong and Stoica, "Efficient coflow scheduling with Varys", SIGCOMM 2014). Its
-/// name is `sebf`.
+/// The smallest effective bottleneck first, and equal ones by number (Chowdhury, Zhong and Stoica, "Efficient coflow
+/// scheduling with Varys", SIGCOMM 2014). Its name is `sebf`.
 #[derive(Drop)]
 pub struct Sebf;
 
@@ -52,8 +52,10 @@ impl Ranker for Sebf {
     fn note(&mut self, _coflow: u32, _slot: u64) {}
 }
 
-/// The smallest bottleneck over weight first, exactly, and equal ones by number: Varys' smallest effective bottleneck (Chowdhury, Zhong and Stoica, SIGCOMM 2014) for weighted coflows, as Smith's rule orders
-/// jobs of one machine (Smith, "Various optimizers for single-stage production", Naval Research Logistics Quarterly 3, 1956). A coflow of weight 0 comes after all others. Its name is `wsebf`.
+/// The smallest bottleneck over weight first, exactly, and equal ones by number: Varys' smallest effective bottleneck
+/// (Chowdhury, Zhong and Stoica, SIGCOMM 2014) for weighted coflows, as Smith's rule orders jobs of one machine (Smith,
+/// "Various optimizers for single-stage production", Naval Research Logistics Quarterly 3, 1956). A coflow of weight 0
+/// comes after all others. Its name is `wsebf`.
 #[derive(Drop)]
 pub struct Wsebf;
 
@@ -95,15 +97,16 @@ impl Ranker for Fifo {
     fn note(&mut self, _coflow: u32, _slot: u64) {}
 }
 
-/// The coflow that ended first when its end was last noted comes first, and equal ones come by number: it learns from the schedule that served its first order. Its name is `attained`.
+/// The coflow that ended first when its end was last noted comes first, and equal ones come by number: it learns from
+/// the schedule that served its first order. Its name is `attained`.
 #[derive(Drop)]
 pub struct Attained {
     slots: Vec<u64>,
 }
 
 impl Attained {
-    /// A ranker with room for the notes of the coflows below `room`. It was told nothing; the slot of a coflow that was not noted, or for which there is no room, counts as 0. The error is want of
-    /// memory.
+    /// A ranker with room for the notes of the coflows below `room`. It was told nothing; the slot of a coflow that was
+    /// not noted, or for which there is no room, counts as 0. The error is want of memory.
     pub fn new(alloc: Global, room: u32) -> Result<Attained, NoMemory>
         ensures slots { IfOk result (λ ranker. ranker.slots.items ≡ replicate room 0) }
         ensures meaning { IfOk result (λ ranker. ⟦<Attained as Ranker>⟧.meaning ranker ≡ attained (replicate room 0)) }

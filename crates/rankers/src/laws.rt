@@ -15,7 +15,8 @@ ghost use Rattle.rankers.specs.declared.row.Scored.{Scored};
 ghost use Rattle.report_text.specs.declared.compared.Compare.{Compare};
 ghost use Rattle.std.specs.Prelude.{◌≡◌, ℕ, All, List, ◌≤◌};
 
-/// What the rounds of a ranker are worth depends on its own meaning and the facts alone: not on its place, nor on the other rankers.
+/// What the rounds of a ranker are worth depends on its own meaning and the facts alone: not on its place, nor on the
+/// other rankers.
 pub fn rounds_are_one()
     ensures first { (i : Instance) (facts : FactsTold) (m : Meaning) (first second other_first other_second : Scored) →
         IsRounds i facts m first second → IsRounds i facts m other_first other_second → first ≡ other_first }
@@ -37,13 +38,15 @@ pub fn rows_hold()
     ensures answers { Answers }
 {}
 
-/// The answer of `wsebf` goes by bottleneck over weight exactly, where each coflow has a weight: the rounding of its keys changes no order.
+/// The answer of `wsebf` goes by bottleneck over weight exactly, where each coflow has a weight: the rounding of its
+/// keys changes no order.
 pub fn wsebf_goes_by_ratio()
     ensures { (facts : FactsTold) → IsFacts facts → All (λ w. 1 ≤ w) facts.weights →
         GoesByRatio facts (answer_of wsebf facts) }
 {}
 
-/// Each cost of a comparison is that of a valid schedule. So where the bound is at most the cost of every valid schedule, no cost of a row is below it.
+/// Each cost of a comparison is that of a valid schedule. So where the bound is at most the cost of every valid
+/// schedule, no cost of a row is below it.
 pub fn costs_are_above_the_bound()
     ensures { (t : TableFacts) (weights : List ℕ) (bench : List Meaning) (c : Compare) →
         IsComparison t weights bench c →

@@ -1,4 +1,5 @@
-//! Rankers of coflows, asked side by side: what each of their orders costs on a trace, before and after they were told how the first one went.
+//! Rankers of coflows, asked side by side: what each of their orders costs on a trace, before and after they were told
+//! how the first one went.
 #![tactic(auto)]
 
 mod by_key;

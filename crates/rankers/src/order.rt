@@ -13,7 +13,8 @@ use flow_table::Table;
 use port_load::Loads;
 use std::alloc::Global;
 
-/// The order of all coflows of the table, with a weight for each, at most 2^32, with the places of the ordering certificate. The error is want of memory.
+/// The order of all coflows of the table, with a weight for each, at most 2^32, with the places of the ordering
+/// certificate. The error is want of memory.
 pub fn order_of(alloc: Global, table: &Table, weights: &[u64]) -> Result<Bssi, NoMemory>
     requires count { length weights.now ≡ length table.now.ids }
     requires weights { All (λ w. w ≤ MAX_WEIGHT) weights.now }

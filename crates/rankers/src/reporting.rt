@@ -20,9 +20,10 @@ use std::alloc::Global;
 
 /// The text of the comparison of the rankers of a bench on a table, under a lower bound on the cost of its schedules.
 ///
-/// Each ranker in turn is asked; where its answer has each coflow once, it is told the completions in the schedule that serves it; then it is asked again, and dropped.
-/// So on success the bench is empty. The bench has fewer than 2^32 rankers, and there is a weight for each coflow, at most 2^32. The error is want of memory: the rankers
-/// that were asked are gone, and those that were not reached are still on the bench, as they were and in their order.
+/// Each ranker in turn is asked; where its answer has each coflow once, it is told the completions in the schedule that
+/// serves it; then it is asked again, and dropped. So on success the bench is empty. The bench has fewer than 2^32
+/// rankers, and there is a weight for each coflow, at most 2^32. The error is want of memory: the rankers that were
+/// asked are gone, and those that were not reached are still on the bench, as they were and in their order.
 pub fn comparison_text(
     alloc: Global,
     table: &Table,

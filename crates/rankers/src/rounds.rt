@@ -28,8 +28,9 @@ pub struct Rounds {
     pub second: Scored,
 }
 
-/// Asks the ranker, tells it what came of its answer where that is an order, and asks it again. Then the ranker is dropped. The facts are those of the table with the weights, and
-/// `order` has one place for each coflow, for its answers.
+/// Asks the ranker, tells it what came of its answer where that is an order, and asks it again. Then the ranker is
+/// dropped. The facts are those of the table with the weights, and `order` has one place for each coflow, for its
+/// answers.
 pub fn rounds_of(
     alloc: Global,
     table: &Table,
@@ -65,7 +66,8 @@ fn ask(ranker: &mut Box<dyn Ranker>, facts: &Facts, order: &mut [u32])
     ranker.rank(facts, order);
 }
 
-/// What the answer in `order` is worth; where it is an order of the coflows, the ranker is told the completions of the schedule that serves it. Afterwards `order` is free for another answer.
+/// What the answer in `order` is worth; where it is an order of the coflows, the ranker is told the completions of the
+/// schedule that serves it. Afterwards `order` is free for another answer.
 fn score_and_tell(
     alloc: Global,
     table: &Table,
@@ -113,7 +115,8 @@ fn score_after(
     Ok(scored)
 }
 
-/// Tells the ranker the completion of each coflow, which `ends` has by number: by completion and then by number. `order` has one place for each coflow, for that order.
+/// Tells the ranker the completion of each coflow, which `ends` has by number: by completion and then by number.
+/// `order` has one place for each coflow, for that order.
 fn tell(ends: &[u64], ranker: &mut Box<dyn Ranker>, order: &mut [u32])
     requires order { length order.old ≡ length ends.now }
     requires few { length ends.now ≤ 2 ^ 32 }

@@ -14,7 +14,8 @@ use schedule_model::{Schedule, completions, cost_of};
 use slot_switch::simulate;
 use std::alloc::Global;
 
-/// What becomes of an answer: the schedule that serves it, where it is an order of the coflows, or the first place at which it is none.
+/// What becomes of an answer: the schedule that serves it, where it is an order of the coflows, or the first place at
+/// which it is none.
 #[derive(Drop)]
 pub enum Judged {
     Served(Schedule),
@@ -54,7 +55,8 @@ pub fn score(
     }
 }
 
-/// The first place, counted from 1, whose number is that of no coflow, or stood earlier. There are as many places as coflows.
+/// The first place, counted from 1, whose number is that of no coflow, or stood earlier. There are as many places as
+/// coflows.
 pub fn first_unfit(alloc: Global, order: &[u32], coflows: u32) -> Result<Option<u32>, NoMemory>
     requires { length order.now ≡ coflows }
     ensures { IfOk result (λ place.

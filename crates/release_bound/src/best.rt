@@ -22,7 +22,8 @@ pub struct Released {
     pub total: u128,
 }
 
-/// Of the released certificates of a table, one by each threshold, the first that has the greatest total. There is a weight and an arrival, in slots, for each coflow. The error is want of memory.
+/// Of the released certificates of a table, one by each threshold, the first that has the greatest total. There is a
+/// weight and an arrival, in slots, for each coflow. The error is want of memory.
 pub fn best_released(
     alloc: Global,
     table: &Table,
@@ -46,7 +47,8 @@ pub fn best_released(
     Ok(best)
 }
 
-/// The released certificate of a table by a threshold, with its total. There is a weight and an arrival, in slots, for each coflow. The error is want of memory.
+/// The released certificate of a table by a threshold, with its total. There is a weight and an arrival, in slots, for
+/// each coflow. The error is want of memory.
 pub fn released_by(
     alloc: Global,
     table: &Table,
@@ -74,7 +76,8 @@ pub fn released_by(
     Ok(Released { places, total })
 }
 
-/// The sum of weight times arrival of the coflows that have units. There is a weight and an arrival, in slots, for each coflow.
+/// The sum of weight times arrival of the coflows that have units. There is a weight and an arrival, in slots, for each
+/// coflow.
 pub fn arrivals_cost(table: &Table, weights: &[u64], arrivals: &[u64]) -> u128
     requires weight_each { length weights.now ≡ length table.now.ids }
     requires weight_range { All (λ w. w ≤ MAX_WEIGHT) weights.now }

@@ -17,9 +17,10 @@ use port_load::Loads;
 use std::alloc::Global;
 use std::marker::Model;
 
-/// Makes a certificate whose total is printed for schedules that serve nobody before its arrival: bottleneck, select, scale, iterate (Agarwal, Rajakrishnan,
-/// Narayan, Agarwal, Shmoys and Vahdat, "Sincronia: near-optimal network design for coflows", SIGCOMM 2018), where a coflow that arrives late pays for its earliest
-/// end. A threshold says from when on that is. It holds the room that a run needs, and the places of the last run.
+/// Makes a certificate whose total is printed for schedules that serve nobody before its arrival: bottleneck, select,
+/// scale, iterate (Agarwal, Rajakrishnan, Narayan, Agarwal, Shmoys and Vahdat, "Sincronia: near-optimal network design
+/// for coflows", SIGCOMM 2018), where a coflow that arrives late pays for its earliest end. A threshold says from when
+/// on that is. It holds the room that a run needs, and the places of the last run.
 ///
 /// Contracts see a `ReleaseBssi` as the number of coflows that it has room for, and its places.
 #[derive(Drop)]
@@ -44,7 +45,8 @@ impl Model for ReleaseBssi {
 }
 
 impl ReleaseBssi {
-    /// Takes the room for runs over up to `coflows` coflows. What a run needs does not grow with the number of ports. The error is want of memory.
+    /// Takes the room for runs over up to `coflows` coflows. What a run needs does not grow with the number of ports.
+    /// The error is want of memory.
     pub fn with_room(alloc: Global, coflows: u32, _ports: u32) -> Result<ReleaseBssi, NoMemory>
         ensures room { IfOk result (λ b. b.room ≡ coflows) }
         ensures none { IfOk result (λ b. b.places ≡ []) }
@@ -69,8 +71,8 @@ impl ReleaseBssi {
         })
     }
 
-    /// Makes the certificate by this threshold of all coflows of the loads, with one weight, at most 2^32, and one arrival, a time in slots, for each of them. The loads are used up:
-    /// what they hold afterwards is not told.
+    /// Makes the certificate by this threshold of all coflows of the loads, with one weight, at most 2^32, and one
+    /// arrival, a time in slots, for each of them. The loads are used up: what they hold afterwards is not told.
     pub fn run(&mut self, loads: &mut Loads, weights: &[u64], arrivals: &[u64], by: Threshold)
         requires room { loads.old.coflows ≤ self.old.room }
         requires weights_len { length weights.now ≡ loads.old.coflows }
@@ -104,7 +106,8 @@ impl ReleaseBssi {
     }
 }
 
-/// Fills the first places, one for each coflow, and tells how many they are. The lists may be longer than there are coflows.
+/// Fills the first places, one for each coflow, and tells how many they are. The lists may be longer than there are
+/// coflows.
 fn order(
     places: &mut [ReleasePlace],
     residuals: &mut [u128],

@@ -16,8 +16,9 @@ use coflow_units::{MAX_COFLOWS, Port, SCALE, Side};
 use dual_cert::{COFLOWS, Charge, load_in_front, payments, places_of, squares, total};
 use port_load::{Loads, bottleneck};
 
-/// The least coflow whose z, together with what it pays for load, is more than its budget of weight times 2^40, with one weight for each coflow of the loads. The
-/// places stand from place 1 on; each y and z may be any number of 128 bits.
+/// The least coflow whose z, together with what it pays for load, is more than its budget of weight times 2^40, with
+/// one weight for each coflow of the loads. The places stand from place 1 on; each y and z may be any number of 128
+/// bits.
 pub fn released_infeasible(loads: &Loads, weights: &[u64], places: &[ReleasePlace]) -> Option<u32>
     requires weights_len { length weights.now ≡ loads.now.coflows }
     requires certificate { IsCertificateOf loads.now (entries_of (reverse places.now)) }
@@ -61,9 +62,10 @@ fn sooner(first: Option<u64>, arrival: u64) -> Option<u64>
     }
 }
 
-/// The lower bound that a feasible released certificate proves on the cost of every schedule that serves nobody before its arrival: half the sum over the places of
-/// y times the value of the front on the port, and z times the earliest end of the coflow, in parts of 2^40 and rounded up. There is one arrival for each coflow of
-/// the loads, a time in slots of at most 2^32, and one weight of at most 2^32, for which the places, from place 1 on, are feasible.
+/// The lower bound that a feasible released certificate proves on the cost of every schedule that serves nobody before
+/// its arrival: half the sum over the places of y times the value of the front on the port, and z times the earliest
+/// end of the coflow, in parts of 2^40 and rounded up. There is one arrival for each coflow of the loads, a time in
+/// slots of at most 2^32, and one weight of at most 2^32, for which the places, from place 1 on, are feasible.
 pub fn released_total(
     loads: &Loads,
     arrivals: &[u64],
@@ -95,8 +97,8 @@ pub fn released_total(
     value.div_ceil(2 * SCALE)
 }
 
-/// What each unit of y adds at a place: the square of its front's load on its port, the squares of the loads of the front's coflows, and twice the first arrival
-/// times the front's load. Places count from 0.
+/// What each unit of y adds at a place: the square of its front's load on its port, the squares of the loads of the
+/// front's coflows, and twice the first arrival times the front's load. Places count from 0.
 fn front_value(
     loads: &Loads,
     arrivals: &[u64],
@@ -119,7 +121,8 @@ fn front_value(
     squares(loads, charges, stands, place) + 2 * (first * load)
 }
 
-/// The first arrival of the coflows of a place's front that have load on its port, or 0 where none has. Places count from 0.
+/// The first arrival of the coflows of a place's front that have load on its port, or 0 where none has. Places count
+/// from 0.
 fn first_arrival(
     loads: &Loads,
     arrivals: &[u64],

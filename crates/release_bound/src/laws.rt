@@ -15,9 +15,9 @@ ghost use Rattle.release_bound.specs.declared.threshold.Threshold.{Threshold};
 ghost use Rattle.release_bound.specs.declared.threshold.Threshold.TheVariants.{Zero};
 ghost use Rattle.release_bound.specs.Rows.{both_are_late, long_after_short, long_and_short, long_and_short_alike, one_part_more, short_is_late};
 
-/// The parallel inequality with arrivals: where nobody is served before its arrival, twice the sum of load times completion
-/// is at least the square of the set's load, the squares of the coflows' loads, and twice the set's load times the first
-/// arrival of those that have load there.
+/// The parallel inequality with arrivals: where nobody is served before its arrival, twice the sum of load times
+/// completion is at least the square of the set's load, the squares of the coflows' loads, and twice the set's load
+/// times the first arrival of those that have load there.
 pub fn late_parallel()
     ensures { (flows : List Flow) (arrival : ℕ → ℕ) (slots : List (List ℕ)) (port : Port) (coflows : List ℕ) →
         IsReleased flows arrival slots → IsDistinct coflows →
@@ -31,8 +31,8 @@ pub fn late_completion()
         IsReleased flows arrival slots → earliest_end flows arrival ports c ≤ completion flows slots c }
 {}
 
-/// Weak duality with arrivals: no schedule that serves nobody before its arrival costs less than the total of a feasible
-/// released certificate.
+/// Weak duality with arrivals: no schedule that serves nobody before its arrival costs less than the total of a
+/// feasible released certificate.
 pub fn released_is_bound()
     ensures value { (i : Instance) (arrival : ℕ → ℕ) (places : List ReleasePlace) (slots : List (List ℕ)) →
         IsReleasedCertificate i places → IsReleasedFeasible i.flows i.weight places → IsReleased i.flows arrival slots →
@@ -42,8 +42,9 @@ pub fn released_is_bound()
         released_total i.flows arrival i.ports places ≤ cost i.flows i.weight i.coflows slots }
 {}
 
-/// Where no port has more load than k and no coflow arrives later than m, the value of a feasible released certificate is at
-/// most 2 * (k + m) times the sum of the budgets. With loads up to 2^40, arrivals up to 2^32 and 4096 weights up to 2^32, that is below 2^126.
+/// Where no port has more load than k and no coflow arrives later than m, the value of a feasible released certificate
+/// is at most 2 * (k + m) times the sum of the budgets. With loads up to 2^40, arrivals up to 2^32 and 4096 weights up
+/// to 2^32, that is below 2^126.
 pub fn released_values_fit()
     ensures { (i : Instance) (arrival : ℕ → ℕ) (places : List ReleasePlace) (k m : ℕ) → IsReleasedCertificate i places →
         IsReleasedFeasible i.flows i.weight places →
@@ -61,7 +62,8 @@ pub fn late_row_has_total()
     ensures both { released_total long_and_short both_are_late 3 long_after_short ≡ 12 }
 {}
 
-/// That certificate is feasible where both have weight 1, and leaves nothing over: with one part more it is not. So each schedule costs at least 10.
+/// That certificate is feasible where both have weight 1, and leaves nothing over: with one part more it is not. So
+/// each schedule costs at least 10.
 pub fn late_row_is_feasible()
     ensures certificate { IsReleasedCertificate long_and_short_alike long_after_short }
     ensures feasible { IsReleasedFeasible long_and_short long_and_short_alike.weight long_after_short }
@@ -70,7 +72,8 @@ pub fn late_row_is_feasible()
         10 ≤ cost long_and_short long_and_short_alike.weight long_and_short_alike.coflows slots }
 {}
 
-/// The released certificate by each threshold is feasible: no coflow pays more than its budget. So each total is at most the cost of every schedule that serves nobody before its arrival.
+/// The released certificate by each threshold is feasible: no coflow pays more than its budget. So each total is at
+/// most the cost of every schedule that serves nobody before its arrival.
 pub fn released_ordering_is_feasible()
     ensures feasible { (by : Threshold) (i : Instance) (arrival : ℕ → ℕ) (places : List ReleasePlace) →
         IsReleasedBy by i arrival places → IsReleasedFeasible i.flows i.weight places }

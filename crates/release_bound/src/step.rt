@@ -57,8 +57,8 @@ fn next_place(
     place
 }
 
-/// The coflow that arrives last takes the place where the threshold's part of the load of the port could be served before it; there it pays for its earliest end alone. Otherwise the
-/// place is that of the ordering certificate.
+/// The coflow that arrives last takes the place where the threshold's part of the load of the port could be served
+/// before it; there it pays for its earliest end alone. Otherwise the place is that of the ordering certificate.
 fn choose_released(
     loads: &Loads,
     arrivals: &[u64],

@@ -115,9 +115,9 @@ pub fn replays_serve_grants()
         IsGrants x.table.flows m.line (left_after x.table.flows (take k slots)) (slice_index_or slots k []) }
 {}
 
-/// The replay of the ranker `bssi` does what an online run over the same table, weights, arrivals and epochs does: it has the same
-/// schedule, its row is the cost that the online run tells, and where one of the two would publish more orders than may be, the
-/// other one does not end.
+/// The replay of the ranker `bssi` does what an online run over the same table, weights, arrivals and epochs does: it
+/// has the same schedule, its row is the cost that the online run tells, and where one of the two would publish more
+/// orders than may be, the other one does not end.
 pub fn bssi_replays_as_online()
     ensures slots { (x : Input) (journal : List Entry) (slots : List (List ℕ)) → IsInput x →
         IsOnlineRun (online_opening x.table x.weights) x.arrivals x.every journal → IsReplay x bssi slots →

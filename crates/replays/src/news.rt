@@ -37,7 +37,8 @@ impl Marks {
     }
 }
 
-/// Tells the ranker the ends of the coflows that joined, owe nothing and were not told, by their ends and then by number. `order` has one place for each coflow, and is free afterwards.
+/// Tells the ranker the ends of the coflows that joined, owe nothing and were not told, by their ends and then by
+/// number. `order` has one place for each coflow, and is free afterwards.
 pub(crate) fn tell_news(
     progress: &Progress,
     marks: &mut Marks,

@@ -12,7 +12,8 @@ use epochs::{spend, units_of_coflows, units_of_flows};
 use flow_table::Table;
 use std::alloc::Global;
 
-/// How many slots have passed, the units that each flow and each coflow has left, and the last slot in which each coflow was served, 0 where it was served in none.
+/// How many slots have passed, the units that each flow and each coflow has left, and the last slot in which each
+/// coflow was served, 0 where it was served in none.
 #[derive(Drop)]
 pub(crate) struct Progress {
     pub(crate) time: u64,

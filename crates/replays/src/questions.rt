@@ -15,7 +15,8 @@ use flow_table::Table;
 use rankers::{Facts, Ranker};
 use std::alloc::Global;
 
-/// What questions take: the facts that are told, room for the order of all coflows, a mark `true` for each coflow, and a place for each in the answer. And how many orders were published.
+/// What questions take: the facts that are told, room for the order of all coflows, a mark `true` for each coflow, and
+/// a place for each in the answer. And how many orders were published.
 #[derive(Drop)]
 pub(crate) struct Questions {
     pub(crate) facts: Facts,

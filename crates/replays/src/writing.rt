@@ -8,8 +8,8 @@ use coflow_units::{Items, NoMemory};
 use report_text::{push_named, push_number};
 use std::alloc::Global;
 
-/// What is said of the replays of a bench: the greatest total of the released certificates, the sum of weight times arrival of the
-/// coflows that have units, and a row for each ranker.
+/// What is said of the replays of a bench: the greatest total of the released certificates, the sum of weight times
+/// arrival of the coflows that have units, and a row for each ranker.
 #[derive(Drop)]
 pub struct ReplayReport {
     pub total: u128,
@@ -19,9 +19,9 @@ pub struct ReplayReport {
 
 /// The text of a replay.
 ///
-/// Words are separated by one space, each line ends with one line feed, and numbers are decimal without leading zeros. The lines
-/// are `sincronia replay 1`, `total T`, `arrivals A`, for each row `row INDEX NAME cost C` or `row INDEX NAME unfit EPOCH PLACE`,
-/// and `end`. The error is want of memory.
+/// Words are separated by one space, each line ends with one line feed, and numbers are decimal without leading zeros.
+/// The lines are `sincronia replay 1`, `total T`, `arrivals A`, for each row `row INDEX NAME cost C` or `row INDEX NAME
+/// unfit EPOCH PLACE`, and `end`. The error is want of memory.
 pub fn write_replay(alloc: Global, report: &ReplayReport) -> Result<Vec<u8>, NoMemory>
     ensures { IfOk result (λ bytes. bytes.items ≡ replay_text report.now) }
 {

@@ -17,7 +17,8 @@ pub struct Member {
     pub id: u32,
 }
 
-/// The coflows by class, what a schedule that keeps the classes costs at most, and the cost and the runs of the schedule that serves them in this order.
+/// The coflows by class, what a schedule that keeps the classes costs at most, and the cost and the runs of the
+/// schedule that serves them in this order.
 #[derive(Drop)]
 pub struct ClassText {
     pub members: Items<Member>,
@@ -28,8 +29,9 @@ pub struct ClassText {
 
 /// The text of classes.
 ///
-/// Words are separated by one space, each line ends with one line feed, and numbers are decimal without leading zeros. The lines are `sincronia classes 1`, for each member
-/// `member CLASS ID`, `cap C`, `cost C`, for each run `run LENGTH FLOW FLOW ...`, and `end`. The lines of the runs and the last one are made when the text is written.
+/// Words are separated by one space, each line ends with one line feed, and numbers are decimal without leading zeros.
+/// The lines are `sincronia classes 1`, for each member `member CLASS ID`, `cap C`, `cost C`, for each run `run LENGTH
+/// FLOW FLOW ...`, and `end`. The lines of the runs and the last one are made when the text is written.
 ///
 /// The error is want of memory.
 pub fn write_classes(alloc: Global, classes: ClassText) -> Result<Text, NoMemory>

@@ -8,14 +8,16 @@ use crate::numbers::{push_named, push_number};
 use coflow_units::{Items, NoMemory};
 use std::alloc::Global;
 
-/// What the answer of a ranker is worth: what the schedule that serves it costs, or the first place, counted from 1, at which it is no order.
+/// What the answer of a ranker is worth: what the schedule that serves it costs, or the first place, counted from 1, at
+/// which it is no order.
 #[derive(Clone, Copy, Debug, PartialEq, Eq)]
 pub enum RowText {
     Cost(u128),
     Unfit(u32),
 }
 
-/// One row: the ranker's place on the bench, from 1, the round, 1 or 2, the ranker's name, and what its answer is worth.
+/// One row: the ranker's place on the bench, from 1, the round, 1 or 2, the ranker's name, and what its answer is
+/// worth.
 #[derive(Drop)]
 pub struct RowLine {
     pub index: u32,
@@ -33,8 +35,9 @@ pub struct Compare {
 
 /// The text of a comparison.
 ///
-/// Words are separated by one space, each line ends with one line feed, and numbers are decimal without leading zeros. The lines are `sincronia compare 1`, `bound B`,
-/// for each row `row INDEX ROUND NAME cost C` or `row INDEX ROUND NAME unfit PLACE`, and `end`. A name has from 1 to 16 letters of a to z.
+/// Words are separated by one space, each line ends with one line feed, and numbers are decimal without leading zeros.
+/// The lines are `sincronia compare 1`, `bound B`, for each row `row INDEX ROUND NAME cost C` or `row INDEX ROUND NAME
+/// unfit PLACE`, and `end`. A name has from 1 to 16 letters of a to z.
 ///
 /// The error is want of memory.
 pub fn write_compare(alloc: Global, compare: &Compare) -> Result<Vec<u8>, NoMemory>

@@ -10,7 +10,8 @@ use coflow_units::{Items, MAX_SLOT, NoMemory};
 use run_list::Runs;
 use std::alloc::Global;
 
-/// The line that comes next: the first one, that of a place or the bound, those of the slack and the cost, that of a run or the last one, or none.
+/// The line that comes next: the first one, that of a place or the bound, those of the slack and the cost, that of a
+/// run or the last one, or none.
 #[derive(Clone, Copy)]
 pub(crate) enum Stage {
     Version,

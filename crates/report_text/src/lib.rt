@@ -1,5 +1,6 @@
-//! Reports of plans, written and read strictly, and the lists of comparisons, classes and made plans. Each value has one text, and
-//! each text of a report stands for at most one report. Other crates write their texts with the calls that write numbers, and end them with the runs of a `Text`.
+//! Reports of plans, written and read strictly, and the lists of comparisons, classes and made plans. Each value has
+//! one text, and each text of a report stands for at most one report. Other crates write their texts with the calls
+//! that write numbers, and end them with the runs of a `Text`.
 #![tactic(auto)]
 
 mod classed;

@@ -49,7 +49,8 @@ fn digits_length(bytes: &[u8]) -> usize
     }
 }
 
-/// The number of at most `most` and without leading zeros that the bytes begin with behind a space, and the bytes behind it.
+/// The number of at most `most` and without leading zeros that the bytes begin with behind a space, and the bytes
+/// behind it.
 pub fn number_then(bytes: &[u8], most: u128) -> Option<(u128, &[u8])>
     ensures { IsNumberThen (λ x. (x.0, x.1.now)) most bytes.now result }
 {

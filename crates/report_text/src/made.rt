@@ -7,8 +7,9 @@ use crate::numbers::{push_named, push_number};
 use coflow_units::NoMemory;
 use std::alloc::Global;
 
-/// What is said of a workload of 200 coflows that was made from a seed, and of its plan, which the check found to hold: how many flows the workload has, how many
-/// units they have together, the lower bound on the cost of any schedule, the slack of rounding, and the cost of the schedule.
+/// What is said of a workload of 200 coflows that was made from a seed, and of its plan, which the check found to hold:
+/// how many flows the workload has, how many units they have together, the lower bound on the cost of any schedule, the
+/// slack of rounding, and the cost of the schedule.
 #[derive(Clone, Copy, Debug, PartialEq, Eq)]
 pub struct Made {
     pub seed: u64,
@@ -21,9 +22,9 @@ pub struct Made {
 
 /// The text of the summary of a made workload.
 ///
-/// Words are separated by one space, each line ends with one line feed, and numbers are decimal without leading zeros. The lines are `sincronia make SEED`,
-/// `coflows 200 flows FLOWS units UNITS`, `bound B`, `slack X`, `cost C`, `check yes` and `end`. The answer of the check is always yes: a plan that the check
-/// refuses has no summary.
+/// Words are separated by one space, each line ends with one line feed, and numbers are decimal without leading zeros.
+/// The lines are `sincronia make SEED`, `coflows 200 flows FLOWS units UNITS`, `bound B`, `slack X`, `cost C`, `check
+/// yes` and `end`. The answer of the check is always yes: a plan that the check refuses has no summary.
 ///
 /// The error is want of memory.
 pub fn write_made(alloc: Global, made: &Made) -> Result<Vec<u8>, NoMemory>

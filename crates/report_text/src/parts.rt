@@ -123,7 +123,8 @@ fn rises(flows: &[u32], flow: u32) -> bool
     }
 }
 
-/// Reads the ascending flow numbers that the bytes are, each behind a space, in place of those of a list, and answers whether they are such.
+/// Reads the ascending flow numbers that the bytes are, each behind a space, in place of those of a list, and answers
+/// whether they are such.
 fn read_flows(bytes: &[u8], flows: &mut Vec<u32>) -> Result<bool, NoMemory>
     requires { Stops bytes.now }
     ensures { IfOk result (λ read. IsFlowsOf bytes.now (if read then Some flows.new.items else None)) }
@@ -143,8 +144,8 @@ fn read_flows(bytes: &[u8], flows: &mut Vec<u32>) -> Result<bool, NoMemory>
     Ok(true)
 }
 
-/// Reads the flows of the run of the line in place of those of a list, and answers how many slots the run has, or none where the line is that of no run.
-/// The error is want of memory.
+/// Reads the flows of the run of the line in place of those of a list, and answers how many slots the run has, or none
+/// where the line is that of no run. The error is want of memory.
 pub(crate) fn read_run(line: &[u8], flows: &mut Vec<u32>) -> Result<Option<u64>, NoMemory>
     ensures { IfOk result (λ slots. IsRunOf line.now (run_if slots flows.new.items)) }
 {

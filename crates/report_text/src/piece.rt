@@ -23,7 +23,8 @@ const FLOWS_AT_ONCE: usize = 1_024;
 /// How many bytes a flow has at most: a space and ten digits.
 const FLOW_BYTES: usize = 11;
 
-/// The bytes that wait for a sink. Those that are put go behind them, and where there is no room for more the sink takes them all. `Failed` is the sink's; after it the piece is of no use.
+/// The bytes that wait for a sink. Those that are put go behind them, and where there is no room for more the sink
+/// takes them all. `Failed` is the sink's; after it the piece is of no use.
 #[derive(Drop)]
 pub(crate) struct Piece {
     bytes: Vec<u8>,

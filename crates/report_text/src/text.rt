@@ -7,7 +7,8 @@ use coflow_units::Items;
 use run_list::Runs;
 use std::marker::Model;
 
-/// A text: some bytes, and behind them, where it ends with a schedule, the lines of the runs and the last line. Those lines are made when the text is written.
+/// A text: some bytes, and behind them, where it ends with a schedule, the lines of the runs and the last line. Those
+/// lines are made when the text is written.
 #[derive(Drop)]
 pub struct Text {
     pub(crate) head: Items<u8>,

@@ -48,7 +48,8 @@ impl<'a> Model for RunLines<'a> {
 }
 
 impl Text {
-    /// A writer of the text. It takes memory for a piece, and four times for the most flows of a run. The error is want of memory.
+    /// A writer of the text. It takes memory for a piece, and four times for the most flows of a run. The error is want
+    /// of memory.
     pub fn writer(&self, alloc: Global) -> Result<TextWriter<'_>, NoMemory>
         ensures { IfOk result (λ writer. writer ≡ self.now) }
     {
@@ -66,7 +67,9 @@ impl Text {
 impl<'a> TextWriter<'a> {
     /// Writes all of the text, piece by piece. It takes no memory.
     ///
-    /// `Failed` comes only where the sink's count of faults rose. A beginning of the text was then taken. The first failure of the sink is the last call: it raises the count by one, up to 2^64 - 1, and a text that is taken whole leaves it as it was.
+    /// `Failed` comes only where the sink's count of faults rose. A beginning of the text was then taken. The first
+    /// failure of the sink is the last call: it raises the count by one, up to 2^64 - 1, and a text that is taken whole
+    /// leaves it as it was.
     pub fn write_to<K: Sink>(self, sink: &mut K) -> Result<(), Failed>
         ensures later { K.faults sink.old ≤ K.faults sink.new }
         ensures cause { OnErr result (Rose (K.faults sink.old) (K.faults sink.new)) }

@@ -12,9 +12,10 @@ use std::alloc::Global;
 
 /// The text of a report, of version 2 where it has weights, and of version 1 where it has none.
 ///
-/// Words are separated by one space, each line ends with one line feed, and numbers are decimal without leading zeros. The lines are `sincronia 2`, for each place
-/// `place K ID SIDE PORT Y DONE WEIGHT` with K counting from 1, `bound B`, `slack X`, `cost C`, for each run `run LENGTH FLOW FLOW ...`, and `end`.
-/// Version 1 has the first line `sincronia 1` and place lines without their last number. The lines of the runs and the last one are made when the text is written.
+/// Words are separated by one space, each line ends with one line feed, and numbers are decimal without leading zeros.
+/// The lines are `sincronia 2`, for each place `place K ID SIDE PORT Y DONE WEIGHT` with K counting from 1, `bound B`,
+/// `slack X`, `cost C`, for each run `run LENGTH FLOW FLOW ...`, and `end`. Version 1 has the first line `sincronia 1`
+/// and place lines without their last number. The lines of the runs and the last one are made when the text is written.
 ///
 /// The report has a weight for each place, or no weights at all. The error is want of memory.
 pub fn write_report(alloc: Global, report: Report) -> Result<Text, NoMemory>

@@ -1,8 +1,10 @@
-//! Measures a crew: all coflows of a trace join and are ordered, and then a crew makes runs of one slot on wires that count units.
-//! Its arguments are the file of a trace, whose units are megabytes, how many agents the crew has, and how many runs are made.
+//! Measures a crew: all coflows of a trace join and are ordered, and then a crew makes runs of one slot on wires that
+//! count units. Its arguments are the file of a trace, whose units are megabytes, how many agents the crew has, and how
+//! many runs are made.
 //!
-//! It prints how many runs were made, and how many units the wires accepted. With a further word `time` it prints how many nanoseconds the runs took, and with one more how many microseconds
-//! a wire waits with each send; without it no wire waits.
+//! It prints how many runs were made, and how many units the wires accepted. With a further word `time` it prints how
+//! many nanoseconds the runs took, and with one more how many microseconds a wire waits with each send; without it no
+//! wire waits.
 //!
 //! The exit code is 0 where all runs were made, and 1 where something was wanting.
 #![tactic(auto)]

@@ -17,7 +17,8 @@ use std::thread::{Threads, join_mut};
 use std::time::{Clock, Duration, Instant};
 use test_support::SmallRun;
 
-/// The runner of a small run gets a crew of so many agents, which takes the wires and makes so many runs of one slot. It answers how long the runs took. The wires come back in their order.
+/// The runner of a small run gets a crew of so many agents, which takes the wires and makes so many runs of one slot.
+/// It answers how long the runs took. The wires come back in their order.
 pub fn time_runs<R: Clock + Threads + Wait + Sync, W: Wire + Send>(
     alloc: Global,
     rt: &R,
@@ -76,8 +77,8 @@ fn time_camp<R: Clock + Threads + Wait + Sync, W: Wire + Send>(
     took
 }
 
-/// The runs beside the helpers, each of whom attends on a thread of its own. The driver's closure stands second: it runs
-/// first where no thread is to be had, attends every part itself, and lets the helpers go before they come.
+/// The runs beside the helpers, each of whom attends on a thread of its own. The driver's closure stands second: it
+/// runs first where no thread is to be had, attends every part itself, and lets the helpers go before they come.
 fn run_in_camp<'a, R: Clock + Threads + Wait + Sync, W: Wire + Send>(
     rt: &'a R,
     hall: &'a Hall,

@@ -8,7 +8,8 @@ use crate::mark::Mark;
 use crate::turnover::{Turnover, push_all};
 use coflow_units::NoMemory;
 
-/// Appends the numbers that tell the flows of a run, and answers its mark. They are what changes from the flows of the run before it, or the flows where these are no more.
+/// Appends the numbers that tell the flows of a run, and answers its mark. They are what changes from the flows of the
+/// run before it, or the flows where these are no more.
 ///
 /// `NoMemory` leaves the numbers as they were.
 pub(crate) fn tell(
@@ -53,7 +54,8 @@ pub(crate) fn tell(
     }
 }
 
-/// Appends what changes from the flows of one run to those of the next, if it is fewer numbers than the latter, and answers whether it is. If not, or on `NoMemory`, a part of it may stand there.
+/// Appends what changes from the flows of one run to those of the next, if it is fewer numbers than the latter, and
+/// answers whether it is. If not, or on `NoMemory`, a part of it may stand there.
 fn tell_changes(numbers: &mut Vec<u32>, before: &[u32], flows: &[u32]) -> Result<bool, NoMemory>
     ensures front { take (length numbers.old.items) numbers.new.items ≡ numbers.old.items }
     ensures told { result ≡ Ok true → numbers.new.items ≡ numbers.old.items ++ toggled before.now flows.now }
@@ -91,7 +93,8 @@ fn tell_changes(numbers: &mut Vec<u32>, before: &[u32], flows: &[u32]) -> Result
     Ok(true)
 }
 
-/// Writes the numbers that stand in just one of two ascending lists to the start of a buffer, ascending, and answers how many they are. The changes that are flows are gone, and the others come.
+/// Writes the numbers that stand in just one of two ascending lists to the start of a buffer, ascending, and answers
+/// how many they are. The changes that are flows are gone, and the others come.
 pub(crate) fn toggle(
     flows: &[u32],
     changes: &[u32],

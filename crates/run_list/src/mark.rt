@@ -7,6 +7,7 @@ pub(crate) struct Mark {
     pub(crate) slots: u64,
     /// How many numbers tell its flows.
     pub(crate) size: u32,
-    /// Whether these numbers are the flows. If not, they are those that stand in just one of this run and the run before it.
+    /// Whether these numbers are the flows. If not, they are those that stand in just one of this run and the run
+    /// before it.
     pub(crate) whole: bool,
 }

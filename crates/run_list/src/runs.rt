@@ -93,9 +93,11 @@ impl Runs {
         false
     }
 
-    /// Appends a run of so many slots that serves the flows, whose numbers ascend strictly. What it repeats of the run before it is not kept again.
+    /// Appends a run of so many slots that serves the flows, whose numbers ascend strictly. What it repeats of the run
+    /// before it is not kept again.
     ///
-    /// `NoMemory` says that there was no room for the run, or that it has 2^32 flows or more, and leaves the list as it was.
+    /// `NoMemory` says that there was no room for the run, or that it has 2^32 flows or more, and leaves the list as it
+    /// was.
     pub fn push(&mut self, slots: u64, flows: &[u32]) -> Result<(), NoMemory>
         requires { IsStrictlyIncreasing flows.now }
         ensures pushed { OnOk result (self.new ≡ self.old ++ run_of slots flows.now ∷ []) }
@@ -128,7 +130,8 @@ impl Runs {
         self.marks[last].slots += slots;
     }
 
-    /// A walk over the runs, before the first of them. It takes room for the most flows that a run has, four times. The error is want of memory.
+    /// A walk over the runs, before the first of them. It takes room for the most flows that a run has, four times. The
+    /// error is want of memory.
     pub fn walk(&self, alloc: Global) -> Result<Walk<'_>, NoMemory>
         ensures { IfOk result (λ walk. walk ≡ record { runs = self.now; entered = 0 }) }
     {

@@ -104,7 +104,8 @@ impl<'a> Walk<'a> {
         &self.flows[..self.count]
     }
 
-    /// The flows of the run before that the run entered last does not serve any longer, ascending. Before the first run there are none.
+    /// The flows of the run before that the run entered last does not serve any longer, ascending. Before the first run
+    /// there are none.
     pub fn gone(&self) -> &[u32]
         ensures flows { (k : ℕ) (r : Run) → k + 1 ≡ self.now.entered →
             result.now ≡ without (flows_before self.now.runs k) (slice_index_or self.now.runs k r).flows }
@@ -114,7 +115,8 @@ impl<'a> Walk<'a> {
         &self.turnover.gone
     }
 
-    /// The flows that the run entered last serves and the run before it does not, ascending. Before the first run there are none.
+    /// The flows that the run entered last serves and the run before it does not, ascending. Before the first run there
+    /// are none.
     pub fn come(&self) -> &[u32]
         ensures flows { (k : ℕ) (r : Run) → k + 1 ≡ self.now.entered →
             result.now ≡ without (slice_index_or self.now.runs k r).flows (flows_before self.now.runs k) }
@@ -125,7 +127,8 @@ impl<'a> Walk<'a> {
     }
 }
 
-/// Replaces the flows of a run, with which `flows` begins, by those of the next run, and answers how many they are. The numbers are these where they are told whole, and else what changes.
+/// Replaces the flows of a run, with which `flows` begins, by those of the next run, and answers how many they are. The
+/// numbers are these where they are told whole, and else what changes.
 fn follow(
     flows: &mut Vec<u32>,
     count: usize,

@@ -1,5 +1,5 @@
-//! Tests of a runner, of rounds of a script, and of what `live` prints. Clauses say what each answer means; here is that runs
-//! in small halls answer what was worked out by hand.
+//! Tests of a runner, of rounds of a script, and of what `live` prints. Clauses say what each answer means; here is
+//! that runs in small halls answer what was worked out by hand.
 #![tactic(auto)]
 
 #[cfg(test)]

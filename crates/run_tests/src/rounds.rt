@@ -87,7 +87,8 @@ fn tell_round<R: Threads + Wait + Sync + Abort>(
     };
 }
 
-/// What a round comes to in a hall with so much room for entries, where each client may take so many turns, and the journal after it.
+/// What a round comes to in a hall with so much room for entries, where each client may take so many turns, and the
+/// journal after it.
 fn told<R: Threads + Wait + Sync + Abort>(
     rt: &R,
     alloc: Global,

@@ -29,8 +29,8 @@ const APART: &str = "1 2\n1 0 1 0 1 0:5\n2 0 1 1 1 1:4\n";
 /// One flow of 2^40 units.
 const LONG: &str = "1 1\n1 0 1 0 1 1:1099511627776\n";
 
-/// Runs of a runner whose driver has so many calls, in a hall whose journal has room for so many entries. Of each wire the unit with this number is not accepted, or none. The runs are of at most so many
-/// slots each.
+/// Runs of a runner whose driver has so many calls, in a hall whose journal has room for so many entries. Of each wire
+/// the unit with this number is not accepted, or none. The runs are of at most so many slots each.
 #[derive(Clone, Copy)]
 struct Row<'a> {
     trace: &'a str,

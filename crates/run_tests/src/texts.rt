@@ -38,7 +38,8 @@ const SERVED_TEXT: &str = "sincronia live 1\n\
     run 3 0\n\
     end\n";
 
-/// Three versions, of which none has the order of another; refusals; and two runs of the same flow, one behind the other.
+/// Three versions, of which none has the order of another; refusals; and two runs of the same flow, one behind the
+/// other.
 const ORDERED_ANEW: [(u32, Command); 18] = [
     (1, Command::Publish),
     (1, Command::Register(0)),

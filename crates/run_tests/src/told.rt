@@ -13,7 +13,8 @@ use std::sync::Wait;
 use std::thread::Threads;
 use test_support::SmallRun;
 
-/// Makes one run, and tells what it came to, the flows of the runner's last run, and how many calls the driver has left.
+/// Makes one run, and tells what it came to, the flows of the runner's last run, and how many calls the driver has
+/// left.
 pub(crate) fn tell_run<R: Threads + Wait + Sync + Abort>(
     rt: &R,
     alloc: Global,

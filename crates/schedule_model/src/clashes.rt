@@ -49,7 +49,8 @@ pub(crate) fn find_clash(
     Ok(None)
 }
 
-/// The least number of a port that two flows of a slot use on the side. The table has the ports that are used in the slot before it, and then those that are used in it.
+/// The least number of a port that two flows of a slot use on the side. The table has the ports that are used in the
+/// slot before it, and then those that are used in it.
 fn least_repeat(
     flows: &[Flow],
     left: &[u32],

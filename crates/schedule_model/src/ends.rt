@@ -14,7 +14,8 @@ use std::alloc::Global;
 
 /// The completions of the coflows with the numbers from 0 to `coflows` less 1, by one pass over the runs.
 ///
-/// The numbers in the schedule are flows'. It takes room for the answer and, four times, for the most flows that a run has; `NoMemory` says that it was not to be had.
+/// The numbers in the schedule are flows'. It takes room for the answer and, four times, for the most flows that a run
+/// has; `NoMemory` says that it was not to be had.
 pub fn completions(
     alloc: Global,
     flows: &[Flow],
@@ -80,8 +81,8 @@ fn mark_ends(flows: &[Flow], numbers: &[u32], slot: u64, ends: &mut [u64])
     }
 }
 
-/// The sum of weight times completion over the coflows, which both lists have by number: the cost of the schedule in which they end so.
-/// There are at most 2^32, with weights of at most 2^32.
+/// The sum of weight times completion over the coflows, which both lists have by number: the cost of the schedule in
+/// which they end so. There are at most 2^32, with weights of at most 2^32.
 pub fn cost_of(weights: &[u64], ends: &[u64]) -> u128
     requires each { length ends.now ≡ length weights.now }
     requires few { length weights.now ≤ 2 ^ 32 }

@@ -8,11 +8,12 @@ ghost use Rattle.coflow_units.specs.Schedule.{IsValid};
 ghost use Rattle.coflow_units.specs.Completion.{completion, end_of};
 ghost use Rattle.coflow_units.specs.Patient.{IsPatient, egress_port, ingress_port, up_to};
 
-/// The parallel inequality: in every valid schedule, for a port and a set of coflows, twice the sum of load times completion is at least
-/// the square of the set's load and the squares of the coflows' loads together.
+/// The parallel inequality: in every valid schedule, for a port and a set of coflows, twice the sum of load times
+/// completion is at least the square of the set's load and the squares of the coflows' loads together.
 ///
-/// Source: Queyranne, "Structure of a simple scheduling polyhedron", Mathematical Programming 1993; for concurrent open shop Mastrolilli, Queyranne,
-/// Schulz, Svensson and Uhan, "Minimizing the sum of weighted completion times in a concurrent open shop", Operations Research Letters 2010.
+/// Source: Queyranne, "Structure of a simple scheduling polyhedron", Mathematical Programming 1993; for concurrent open
+/// shop Mastrolilli, Queyranne, Schulz, Svensson and Uhan, "Minimizing the sum of weighted completion times in a
+/// concurrent open shop", Operations Research Letters 2010.
 pub fn parallel()
     ensures { (flows : List Flow) (slots : List (List ℕ)) (port : Port) (coflows : List ℕ) → IsValid flows slots →
         IsDistinct coflows →
@@ -20,10 +21,12 @@ pub fn parallel()
         2 * sum_by (λ c. load flows c port * completion flows slots c) coflows }
 {}
 
-/// In a valid schedule that is patient for an order, the end of a flow and its units are together at most the loads of its two ports over the coflows up to its own.
-/// So a coflow completes within twice the greatest port load of the coflows up to it.
+/// In a valid schedule that is patient for an order, the end of a flow and its units are together at most the loads of
+/// its two ports over the coflows up to its own. So a coflow completes within twice the greatest port load of the
+/// coflows up to it.
 ///
-/// Source: the argument for order-preserving schedules of Agarwal, Rajakrishnan, Narayan, Agarwal, Shmoys and Vahdat, "Sincronia: near-optimal network design for coflows", SIGCOMM 2018.
+/// Source: the argument for order-preserving schedules of Agarwal, Rajakrishnan, Narayan, Agarwal, Shmoys and Vahdat,
+/// "Sincronia: near-optimal network design for coflows", SIGCOMM 2018.
 pub fn patient_is_short()
     ensures flow { (flows : List Flow) (order : List ℕ) (slots : List (List ℕ)) (f : ℕ) → IsValid flows slots →
         IsPatient flows order slots → f < length flows → Contains order (coflow_of flows f) →

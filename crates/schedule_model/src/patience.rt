@@ -13,16 +13,18 @@ use crate::schedule::Schedule;
 use coflow_units::{Flow, NoMemory, Side};
 use std::alloc::Global;
 
-/// Tests whether a schedule is patient for an order of coflows: in each slot each flow that has units left is served, or one of its ports serves a coflow no later in the order.
+/// Tests whether a schedule is patient for an order of coflows: in each slot each flow that has units left is served,
+/// or one of its ports serves a coflow no later in the order.
 ///
-/// The numbers in the schedule are flows'. A coflow that is not in the order comes after all that are.
-/// It takes two words of memory for each flow, two for each port number up to the greatest of the flows, and room for the most flows that a run has, four times;
-/// `NoMemory` says that these were not to be had.
+/// The numbers in the schedule are flows'. A coflow that is not in the order comes after all that are. It takes two
+/// words of memory for each flow, two for each port number up to the greatest of the flows, and room for the most flows
+/// that a run has, four times; `NoMemory` says that these were not to be had.
 ///
-/// In a run a flow that is not served keeps its units, so the test at the first slot of a run is the test at each of them.
+/// In a run a flow that is not served keeps its units, so the test at the first slot of a run is the test at each of
+/// them.
 ///
-/// Sincronia calls such schedules order-preserving and work-conserving (Agarwal, Rajakrishnan, Narayan, Agarwal, Shmoys and Vahdat,
-/// "Sincronia: near-optimal network design for coflows", SIGCOMM 2018).
+/// Sincronia calls such schedules order-preserving and work-conserving (Agarwal, Rajakrishnan, Narayan, Agarwal, Shmoys
+/// and Vahdat, "Sincronia: near-optimal network design for coflows", SIGCOMM 2018).
 pub fn is_patient(
     alloc: Global,
     flows: &[Flow],
@@ -115,7 +117,8 @@ fn waits_well(
     all_wait(flows, places, counts, ingress, egress)
 }
 
-/// Writes at each port of the side the least place that a flow of the slot has there, or `none` where no flow of the slot uses the port.
+/// Writes at each port of the side the least place that a flow of the slot has there, or `none` where no flow of the
+/// slot uses the port.
 fn note_places(
     flows: &[Flow],
     places: &[usize],

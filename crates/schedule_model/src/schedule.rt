@@ -10,7 +10,8 @@ use run_list::Runs;
 use std::alloc::Global;
 use std::marker::Model;
 
-/// A schedule: a list of slots, each an ascending list of flow numbers. It keeps runs of equal slots, and has at most 2^41 - 1 slots.
+/// A schedule: a list of slots, each an ascending list of flow numbers. It keeps runs of equal slots, and has at most
+/// 2^41 - 1 slots.
 #[derive(Drop)]
 pub struct Schedule {
     runs: Runs,
@@ -39,7 +40,8 @@ impl Schedule {
 
     /// Appends `length` equal slots that hold the flows. A run that is equal to the last one is joined with it.
     ///
-    /// The flow numbers ascend strictly. `NoMemory` says that there was no room for the run, and leaves the schedule as it was.
+    /// The flow numbers ascend strictly. `NoMemory` says that there was no room for the run, and leaves the schedule as
+    /// it was.
     pub fn push_run(&mut self, length: u64, flows: &[u32]) -> Result<(), NoMemory>
         requires some { 1 ≤ length }
         requires ascending { IsStrictlyIncreasing flows.now }

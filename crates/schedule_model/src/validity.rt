@@ -13,13 +13,14 @@ use coflow_units::{Flow, NoMemory};
 use run_list::Runs;
 use std::alloc::Global;
 
-/// Tests whether a schedule is valid for the flows: each number is a flow's, no two flows of a slot share a port, and each flow stands in as many slots as it has units.
+/// Tests whether a schedule is valid for the flows: each number is a flow's, no two flows of a slot share a port, and
+/// each flow stands in as many slots as it has units.
 ///
-/// It answers the first fault: `NoFlow` before `Clash` before `Units`, then the least slot, then the least flow number or the first port, ingress ports first.
-/// `None` says that the schedule is valid. There are at most 2^32 flows.
+/// It answers the first fault: `NoFlow` before `Clash` before `Units`, then the least slot, then the least flow number
+/// or the first port, ingress ports first. `None` says that the schedule is valid. There are at most 2^32 flows.
 ///
-/// It takes two words of memory for each flow, two bytes for each port number up to the greatest of the flows, and room for the most flows that a run has, four times;
-/// `NoMemory` says that these were not to be had.
+/// It takes two words of memory for each flow, two bytes for each port number up to the greatest of the flows, and room
+/// for the most flows that a run has, four times; `NoMemory` says that these were not to be had.
 pub fn find_fault(
     alloc: Global,
     flows: &[Flow],
@@ -33,7 +34,8 @@ pub fn find_fault(
     Ok(fault)
 }
 
-/// As `find_fault`, of the schedule whose runs these are: no run is empty, the flows of each ascend, and neighbours differ.
+/// As `find_fault`, of the schedule whose runs these are: no run is empty, the flows of each ascend, and neighbours
+/// differ.
 pub fn find_fault_of_runs(
     alloc: Global,
     flows: &[Flow],

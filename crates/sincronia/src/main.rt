@@ -1,4 +1,5 @@
-//! The program: hands its words, the files, the standard output, wires that count and open gates to the library's one call, and ends with its code.
+//! The program: hands its words, the files, the standard output, wires that count and open gates to the library's one
+//! call, and ends with its code.
 #![tactic(auto)]
 
 ghost use Rattle.std.specs.Prelude.{◌<◌, ◌≤◌, IfOk, length};
@@ -61,8 +62,8 @@ fn run<R: Threads + Wait + Sync, H: Shelf, K: Sink>(
     }
 }
 
-/// Does what the words ask for, with the rankers of `compare` on the bench, and one more where the words ask for `replay`. The
-/// error is want of memory for the bench, the wires or the gates.
+/// Does what the words ask for, with the rankers of `compare` on the bench, and one more where the words ask for
+/// `replay`. The error is want of memory for the bench, the wires or the gates.
 fn with_bench<R: Threads + Wait + Sync, H: Shelf, K: Sink>(
     rt: &R,
     alloc: Global,

@@ -33,12 +33,13 @@ use std::thread::Threads;
 
 /// Does what a job asks for: the text to be written, with the status that the job ends with. Nothing is written yet.
 ///
-/// There is a wire for each ingress port that a trace may have, and a gate for each number that a client of a script may have. The bench has
-/// fewer than 2^32 rankers.
+/// There is a wire for each ingress port that a trace may have, and a gate for each number that a client of a script
+/// may have. The bench has fewer than 2^32 rankers.
 ///
-/// The error is the status of why there is nothing to write: what is wrong first with the files, in the order in which they are read; a call to the shelf that failed, by which
-/// its count of faults rose; the wire that did not accept a unit; too many publishings of an online run or of a replay;
-/// a policy that no ranker of the bench has, where no file was looked at; or that no memory was to be had.
+/// The error is the status of why there is nothing to write: what is wrong first with the files, in the order in which
+/// they are read; a call to the shelf that failed, by which its count of faults rose; the wire that did not accept a
+/// unit; too many publishings of an online run or of a replay; a policy that no ranker of the bench has, where no file
+/// was looked at; or that no memory was to be had.
 pub fn carry_out<'a, R: Threads + Wait + Sync, H: Shelf, W: Wire + Send, G: Gate + Send>(
     rt: &R,
     alloc: Global,

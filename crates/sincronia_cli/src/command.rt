@@ -54,21 +54,21 @@ use std::sync::Wait;
 use std::thread::Threads;
 
 /// Does what the words ask for, and writes one text to the sink. The commands, their texts and the exit codes stand in
-/// docs/FORMATS.md. A plan is that of the order by bottleneck, select, scale, iterate (Sincronia: Agarwal, Rajakrishnan, Narayan,
-/// Agarwal, Shmoys and Vahdat, SIGCOMM 2018).
+/// docs/FORMATS.md. A plan is that of the order by bottleneck, select, scale, iterate (Sincronia: Agarwal,
+/// Rajakrishnan, Narayan, Agarwal, Shmoys and Vahdat, SIGCOMM 2018).
 ///
-/// The words begin with the program's name, and files lie on the shelf by name. There is a wire for each ingress port that a
-/// trace may have, 1025 of them: `plan`, `make`, `online` and `live` send the units of their schedules there. There are 64 gates,
-/// one for each client of a script, for `live` alone. The bench has fewer than 2^32 rankers; `compare` and `replay` take them off
-/// and drop them one after another.
+/// The words begin with the program's name, and files lie on the shelf by name. There is a wire for each ingress port
+/// that a trace may have, 1025 of them: `plan`, `make`, `online` and `live` send the units of their schedules there.
+/// There are 64 gates, one for each client of a script, for `live` alone. The bench has fewer than 2^32 rankers;
+/// `compare` and `replay` take them off and drop them one after another.
 ///
-/// Trace, weights and one more file are read in this order, and the first fault ends the job: its status says the fault, and nothing
-/// is written. A policy that no ranker of the bench has is told before a file is looked at. At `Ok` and `No` the text was written
-/// whole, at `WriteFault` a beginning of it. No call that failed is tried again: the count of faults of the shelf, the sink or the
-/// wire rises by one. `NoMemory` may come in place of any answer.
+/// Trace, weights and one more file are read in this order, and the first fault ends the job: its status says the
+/// fault, and nothing is written. A policy that no ranker of the bench has is told before a file is looked at. At `Ok`
+/// and `No` the text was written whole, at `WriteFault` a beginning of it. No call that failed is tried again: the
+/// count of faults of the shelf, the sink or the wire rises by one. `NoMemory` may come in place of any answer.
 ///
-/// What is said here of bytes, of files that are looked at and of units holds where shelf, sink and wires tell them, as those
-/// in memory do. The others tell their counts of faults alone.
+/// What is said here of bytes, of files that are looked at and of units holds where shelf, sink and wires tell them, as
+/// those in memory do. The others tell their counts of faults alone.
 pub fn sincronia<R: Threads + Wait + Sync, H: Shelf, K: Sink, W: Wire + Send, G: Gate + Send>(
     rt: &R,
     alloc: Global,

@@ -1,4 +1,5 @@
-//! The program that tells the numbers of a schedule: hands its words, the files and the standard output to the library's one call, and ends with its code.
+//! The program that tells the numbers of a schedule: hands its words, the files and the standard output to the
+//! library's one call, and ends with its code.
 #![tactic(auto)]
 
 use command_files::Status;

@@ -4,7 +4,8 @@ use client_session::Driver;
 /// What a slot came to.
 #[derive(Clone, Copy, Debug, PartialEq, Eq)]
 pub enum Ran {
-    /// A run was opened and closed, of so many slots from this slot on, with so many flows. The wire of each flow's ingress port accepted one unit for each slot.
+    /// A run was opened and closed, of so many slots from this slot on, with so many flows. The wire of each flow's
+    /// ingress port accepted one unit for each slot.
     Ran { slot: u64, length: u64, count: u32 },
     /// No coflow of the line owes a unit. No run was opened.
     Nothing,
@@ -14,7 +15,8 @@ pub enum Ran {
     Full(u32),
     /// The driver has fewer calls left than a run may need. No turn was taken.
     Spent,
-    /// A run was opened and closed, and the wire of this ingress port accepted fewer units than the run has slots: so many. It is the least such port, and the count of its wire's faults rose.
+    /// A run was opened and closed, and the wire of this ingress port accepted fewer units than the run has slots: so
+    /// many. It is the least such port, and the count of its wire's faults rose.
     WireFault { port: u32, sent: u64 },
     /// There is no memory for the agents. No turn was taken.
     NoMemory,

@@ -9,9 +9,12 @@ use crews::{Part, append, retire};
 use errands::Helper;
 use outside::Wire;
 
-/// All that runs with a crew need: the crew, the site where it works, the helpers at the trays of the site, and the wires that no port has.
+/// All that runs with a crew need: the crew, the site where it works, the helpers at the trays of the site, and the
+/// wires that no port has.
 ///
-/// While runs are made, each helper attends at the tray of its number, on a thread of its own (`crews::help_all`); where there is no helper, no thread is needed. The fields are lent one by one: the crew to one thread, the helpers to the others, and the site to all.
+/// While runs are made, each helper attends at the tray of its number, on a thread of its own (`crews::help_all`);
+/// where there is no helper, no thread is needed. The fields are lent one by one: the crew to one thread, the helpers
+/// to the others, and the site to all.
 pub struct Camp<W: Wire> {
     /// The driver, with the wires of the ports.
     pub crew: Crew<W>,
@@ -24,7 +27,8 @@ pub struct Camp<W: Wire> {
 }
 
 impl<W: Wire> Camp<W> {
-    /// Frees all but the driver, which is handed back, once the crew is dismissed. The wires go behind those of the vector, which has room for them: first those of the ports, by number, and then those that no port has.
+    /// Frees all but the driver, which is handed back, once the crew is dismissed. The wires go behind those of the
+    /// vector, which has room for them: first those of the ports, by number, and then those that no port has.
     ///
     /// It takes no memory, and there is no error.
     pub fn disband(self, wires: &mut Vec<W>) -> Driver

@@ -30,16 +30,20 @@ use std::sync::Wait;
 pub struct Site<W: Wire> {
     /// The board on which the runs are granted at the ports.
     pub board: PortBoard,
-    /// A tray for each agent but the driver's own, at which the driver gives the agent's part of a run and takes it back.
+    /// A tray for each agent but the driver's own, at which the driver gives the agent's part of a run and takes it
+    /// back.
     pub trays: Vec<Tray<Part<W>>>,
 }
 
 /// The driver of a hall, with the wires of its ports. `Runner::into_camp` makes it.
 ///
-/// Its helpers live through all of its runs, each on a thread of its own. In each run the granted ports are cut into stretches of even length, one for the driver and one for each helper, or one for each port where the ports are fewer.
-/// The driver gives the helpers theirs, each with its wires at a tray, serves the first itself, and then takes the others back, one at a time: it serves itself what no helper took, and waits for what one did.
+/// Its helpers live through all of its runs, each on a thread of its own. In each run the granted ports are cut into
+/// stretches of even length, one for the driver and one for each helper, or one for each port where the ports are
+/// fewer. The driver gives the helpers theirs, each with its wires at a tray, serves the first itself, and then takes
+/// the others back, one at a time: it serves itself what no helper took, and waits for what one did.
 ///
-/// Contracts see what a runner has, the board of the ports, the place of each helper (the driver's end of its tray, and the room for its part), and the wires of all ports, by number.
+/// Contracts see what a runner has, the board of the ports, the place of each helper (the driver's end of its tray, and
+/// the room for its part), and the wires of all ports, by number.
 pub struct Crew<W: Wire> {
     pub(crate) driver: Driver,
     pub(crate) ports: u32,
@@ -95,15 +99,20 @@ impl<W: Wire> Crew<W> {
         &mut self.driver
     }
 
-    /// One run of at most so many slots, by the agents of the crew at the site where it works: opens it, grants its flows at the ports, lets the agents draw and send them beside each other, each at its own ports,
-    /// settles every granted port, notes each one that sent less than the run has slots, by number, and closes the run. It takes turns, which may wait. It takes no memory, so an opened run is always closed.
+    /// One run of at most so many slots, by the agents of the crew at the site where it works: opens it, grants its
+    /// flows at the ports, lets the agents draw and send them beside each other, each at its own ports, settles every
+    /// granted port, notes each one that sent less than the run has slots, by number, and closes the run. It takes
+    /// turns, which may wait. It takes no memory, so an opened run is always closed.
     ///
     /// The answers are those of `Runner::slot`, but for want of memory, which does not come:
     ///
     /// - `Ran`: a run was opened and closed, and each wire of a granted port accepted one unit for each slot.
-    /// - `WireFault`: a run was opened and closed, and the wire of this port, the least such, accepted so many units, fewer than the run has slots.
-    /// - `Nothing`: no coflow of the line owes a unit. `Late`: no slot is left. `Full`: the journal has no room. Then no run was opened, and the wires are as before.
-    /// - `Spent`: the driver has fewer calls left than the number of ports and 2 more. No turn was taken, and all is as before.
+    /// - `WireFault`: a run was opened and closed, and the wire of this port, the least such, accepted so many units,
+    ///   fewer than the run has slots.
+    /// - `Nothing`: no coflow of the line owes a unit. `Late`: no slot is left. `Full`: the journal has no room. Then
+    ///   no run was opened, and the wires are as before.
+    /// - `Spent`: the driver has fewer calls left than the number of ports and 2 more. No turn was taken, and all is as
+    ///   before.
     pub fn slot<R: Wait>(&mut self, rt: &R, hall: &Hall, site: &Site<W>, most: u64) -> Ran
         requires may { MayRun hall.now self.old.runner }
         requires most { 1 ≤ most }
@@ -150,7 +159,8 @@ impl<W: Wire> Crew<W> {
         }
     }
 
-    /// Tells the helpers at the site that no run is made any more, so that they end. All else of the crew stays as it is. It comes once, after the last run.
+    /// Tells the helpers at the site that no run is made any more, so that they end. All else of the crew stays as it
+    /// is. It comes once, after the last run.
     pub fn dismiss(&mut self, site: &Site<W>)
         requires site { IsAt site.now self.old }
         ensures { self.new ≡ record self.old { places = map ended self.old.places } }

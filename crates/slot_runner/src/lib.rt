@@ -1,4 +1,5 @@
-//! A runner: it opens runs in a hall as the hall's driver, grants each run at the ports, lets agents on threads of their own draw and send what is granted, settles and notes what the wires took, and closes the run.
+//! A runner: it opens runs in a hall as the hall's driver, grants each run at the ports, lets agents on threads of
+//! their own draw and send what is granted, settles and notes what the wires took, and closes the run.
 //!
 //! A `Runner` starts its agents in each run. A `Crew` makes the same runs, with helpers that live through all of them.
 #![tactic(auto)]

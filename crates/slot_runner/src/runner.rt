@@ -32,7 +32,8 @@ use std::thread::Threads;
 
 /// The driver of a hall, with ports of its own on which its runs are granted.
 ///
-/// Contracts see the driver, the number of ports, the posts on them and how each was settled, the slot before which its runs ended, and the flows of its last run.
+/// Contracts see the driver, the number of ports, the posts on them and how each was settled, the slot before which its
+/// runs ended, and the flows of its last run.
 pub struct Runner {
     driver: Driver,
     board: PortBoard,
@@ -120,7 +121,9 @@ impl Runner {
         driver
     }
 
-    /// The runner as a crew of so many agents, the driver's own thread among them, with all that its runs need. There are no more agents than ports, and each but the driver's own has a tray. The wires are taken out of the vector, which keeps its room: the crew has one for each port, by number, and the camp those after them.
+    /// The runner as a crew of so many agents, the driver's own thread among them, with all that its runs need. There
+    /// are no more agents than ports, and each but the driver's own has a tray. The wires are taken out of the vector,
+    /// which keeps its room: the crew has one for each port, by number, and the camp those after them.
     ///
     /// The error is want of memory. It hands the runner back as it was, and the wires stay where they are.
     pub fn into_camp<W: Wire>(
@@ -188,8 +191,10 @@ impl Runner {
         &self.granted
     }
 
-    /// One run of at most so many slots: opens it, grants its flows at the ports, lets so many agents beside each other draw and send them, each at its own ports next to each other, settles every granted port,
-    /// notes each one that sent less than the run has slots, by number, and closes the run. There is a wire for each port. It takes turns, which may wait.
+    /// One run of at most so many slots: opens it, grants its flows at the ports, lets so many agents beside each other
+    /// draw and send them, each at its own ports next to each other, settles every granted port, notes each one that
+    /// sent less than the run has slots, by number, and closes the run. There is a wire for each port. It takes turns,
+    /// which may wait.
     ///
     /// Memory is taken before the run is opened, so an opened run is always closed.
     pub fn slot<R: Threads + Wait + Sync, W: Wire + Send>(

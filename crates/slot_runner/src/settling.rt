@@ -16,7 +16,8 @@ use client_session::{Answer, Driver, Hall};
 use port_board::{PortBoard, Poster, Settled};
 use std::sync::Wait;
 
-/// Settles the post of each granted flow, once all agents came back. The list becomes the units that were sent of each, in the order of the flows. It has room for one number for each port.
+/// Settles the post of each granted flow, once all agents came back. The list becomes the units that were sent of each,
+/// in the order of the flows. It has room for one number for each port.
 pub fn settle_ports(
     hall: &Hall,
     driver: &Driver,
@@ -52,7 +53,8 @@ pub fn settle_ports(
     }
 }
 
-/// Notes each port from which fewer units were sent than the run has slots, by number. The list has what was sent of each granted flow, in the order of the flows. The answer is the first such port, with what was sent from it.
+/// Notes each port from which fewer units were sent than the run has slots, by number. The list has what was sent of
+/// each granted flow, in the order of the flows. The answer is the first such port, with what was sent from it.
 pub fn note_short_ports<R: Wait>(
     rt: &R,
     hall: &Hall,

@@ -13,12 +13,14 @@ use matching::Matching;
 use schedule_model::Schedule;
 use std::alloc::Global;
 
-/// The schedule that serves all flows of a table in an order of its coflows: in each slot the flows that the order grants for the units left then.
-/// This is the order-preserving, work-conserving schedule of Sincronia (Agarwal, Rajakrishnan, Narayan, Agarwal, Shmoys and Vahdat, "Sincronia: near-optimal
-/// network design for coflows", SIGCOMM 2018), in slots of one unit.
+/// The schedule that serves all flows of a table in an order of its coflows: in each slot the flows that the order
+/// grants for the units left then. This is the order-preserving, work-conserving schedule of Sincronia (Agarwal,
+/// Rajakrishnan, Narayan, Agarwal, Shmoys and Vahdat, "Sincronia: near-optimal network design for coflows", SIGCOMM
+/// 2018), in slots of one unit.
 ///
-/// `order` has each coflow of the table once. The grants of a slot stay as they are until the first of their flows has no units left, so they are served for a
-/// whole run of slots at a time, and then repaired where flows ended. The error is want of memory.
+/// `order` has each coflow of the table once. The grants of a slot stay as they are until the first of their flows has
+/// no units left, so they are served for a whole run of slots at a time, and then repaired where flows ended. The error
+/// is want of memory.
 pub fn simulate(alloc: Global, table: &Table, order: &[u32]) -> Result<Schedule, NoMemory>
     requires distinct { IsDistinct order.now }
     requires known { All (λ c. c < length table.now.ids) order.now }

@@ -23,12 +23,14 @@ use std::alloc::Global;
 
 /// Tells the numbers of the schedule that the words name, and writes them to the sink.
 ///
-/// The words are `TRACE REPORT`, and options before, between or behind them, each at most once: `--weights FILE` and `--unit MEGABYTES` as for `sincronia check`;
-/// `--slot-ms MILLISECONDS`, from 1 to 2^20, by which the coflows of an online run arrive, 8 without it, and with which numbers are told in milliseconds too; and `--csv`, which
-/// asks for a row for each coflow.
+/// The words are `TRACE REPORT`, and options before, between or behind them, each at most once: `--weights FILE` and
+/// `--unit MEGABYTES` as for `sincronia check`; `--slot-ms MILLISECONDS`, from 1 to 2^20, by which the coflows of an
+/// online run arrive, 8 without it, and with which numbers are told in milliseconds too; and `--csv`, which asks for a
+/// row for each coflow.
 ///
-/// The trace, the weights and the report are read in this order, and the first fault ends the job. The report is that of a plan or of an online run, and it is checked as
-/// `sincronia check` does it. A plan whose cost is above the ratio to its bound, which may be that of a given order, has numbers all the same.
+/// The trace, the weights and the report are read in this order, and the first fault ends the job. The report is that
+/// of a plan or of an online run, and it is checked as `sincronia check` does it. A plan whose cost is above the ratio
+/// to its bound, which may be that of a given order, has numbers all the same.
 ///
 /// The statuses are:
 /// - `Ok`: the numbers were written whole.
@@ -36,13 +38,14 @@ use std::alloc::Global;
 /// - `Usage`: the words are no command line.
 /// - `Ended`: as `sincronia check` ends before it writes, or at a fault of the sink, or where no memory was to be had.
 ///
-/// What is told rests on this: the schedule is valid, that of an online run serves nobody before its arrival, its cost is the stated one, and the bound or the total is at most
-/// the cost of each such schedule.
+/// What is told rests on this: the schedule is valid, that of an online run serves nobody before its arrival, its cost
+/// is the stated one, and the bound or the total is at most the cost of each such schedule.
 ///
-/// Nothing was written but at `Ok`, and at a fault of the sink, where a beginning of the text was written. The files on the shelf are as before, and at every status but
-/// `Usage`, those that come before the check and want of memory each of them was read to its end. Where they are told and good, the status is the one that their report calls for;
-/// only a fault of shelf or sink and want of memory may come in its place. The shelf's count of faults rises by one at a fault of the shelf, and the sink's at a fault of the sink,
-/// each up to 2^64 - 1, and neither does at any other status.
+/// Nothing was written but at `Ok`, and at a fault of the sink, where a beginning of the text was written. The files on
+/// the shelf are as before, and at every status but `Usage`, those that come before the check and want of memory each
+/// of them was read to its end. Where they are told and good, the status is the one that their report calls for; only a
+/// fault of shelf or sink and want of memory may come in its place. The shelf's count of faults rises by one at a fault
+/// of the shelf, and the sink's at a fault of the sink, each up to 2^64 - 1, and neither does at any other status.
 pub fn sincronia_stats<H: Shelf, K: Sink>(
     alloc: Global,
     words: &[String],

@@ -24,7 +24,8 @@ pub(crate) struct Files {
     pub(crate) report: AnyReport,
 }
 
-/// Reads the files that the words name: the trace, the weights and the report, in this order. The error is the status of why they were not read.
+/// Reads the files that the words name: the trace, the weights and the report, in this order. The error is the status
+/// of why they were not read.
 pub(crate) fn read_files<'a, H: Shelf>(
     alloc: Global,
     words: StatsWords<'a>,

@@ -1,4 +1,5 @@
-//! The program that tells the numbers of a schedule: from the words of a command line and the bytes of a trace and a report to the bytes of a text.
+//! The program that tells the numbers of a schedule: from the words of a command line and the bytes of a trace and a
+//! report to the bytes of a text.
 #![tactic(auto)]
 
 mod checking;

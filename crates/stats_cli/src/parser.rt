@@ -9,7 +9,8 @@ use clap::{Arg, ArgAction, ArgMatches, Command};
 use command_words::{WordsFault, fault_by, needed_name, option_named, with_arg};
 use std::alloc::{AllocError, Global};
 
-/// What the words give each argument. `Usage` comes where a word is refused, an argument is used twice, or TRACE or REPORT is missing.
+/// What the words give each argument. `Usage` comes where a word is refused, an argument is used twice, or TRACE or
+/// REPORT is missing.
 pub(crate) fn matches_of<'a>(
     alloc: Global,
     words: &'a [String],

@@ -14,7 +14,8 @@ pub enum StatsStatus {
     No,
     /// The words are no command.
     Usage,
-    /// The job ended as one of `sincronia` does: a file gave no trace, no weights or no report, the shelf or the sink failed, or no memory was to be had.
+    /// The job ended as one of `sincronia` does: a file gave no trace, no weights or no report, the shelf or the sink
+    /// failed, or no memory was to be had.
     Ended(Status),
 }
 

@@ -28,7 +28,8 @@ fn table_of_two(alloc: Global) -> Option<Table>
     }
 }
 
-/// A master of two coflows of weight 1, both from port 0 to port 1: coflow 0 owes 3 units, and coflow 1 owes 1. Its journal takes entries up to the limit, from 1 to 2^23.
+/// A master of two coflows of weight 1, both from port 0 to port 1: coflow 0 owes 3 units, and coflow 1 owes 1. Its
+/// journal takes entries up to the limit, from 1 to 2^23.
 ///
 /// None means that memory was wanting.
 pub fn master_of_two(alloc: Global, limit: u32) -> Option<Master>

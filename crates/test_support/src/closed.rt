@@ -7,7 +7,8 @@ use client_session::{CloseFault, Driver, Hall, Session};
 use master_core::{Entry, Master};
 use std::alloc::Global;
 
-/// Closes a hall of which all sessions are given, and hands out its master. A close that finds no memory is tried once more. None means that memory was wanting, or that a session was.
+/// Closes a hall of which all sessions are given, and hands out its master. A close that finds no memory is tried once
+/// more. None means that memory was wanting, or that a session was.
 pub(crate) fn closed(
     alloc: Global,
     hall: Hall,

@@ -18,8 +18,9 @@ use std::alloc::Global;
 
 /// The bytes of a file, which are read at this place.
 ///
-/// `NotRead` comes where a call to the shelf failed, by which its count of faults rose, `Text` of `TooLong` where there are more than 2^26 bytes, and `NoMemory` where no memory was to be had. The place
-/// is started where the bytes are answered, and every other place is as it was.
+/// `NotRead` comes where a call to the shelf failed, by which its count of faults rose, `Text` of `TooLong` where there
+/// are more than 2^26 bytes, and `NoMemory` where no memory was to be had. The place is started where the bytes are
+/// answered, and every other place is as it was.
 pub fn bytes_of_file<H: Shelf>(
     alloc: Global,
     shelf: &mut H,
@@ -45,10 +46,11 @@ pub fn bytes_of_file<H: Shelf>(
     }
 }
 
-/// The table of the trace in a file, with units of that size. The file is read at the place of traces, and every other place is as it was.
+/// The table of the trace in a file, with units of that size. The file is read at the place of traces, and every other
+/// place is as it was.
 ///
-/// `NotRead` comes where a call to the shelf failed, by which its count of faults rose, `Text` where the bytes are too many or give no table, with the cause, and `NoMemory` where no memory was to be
-/// had for the bytes.
+/// `NotRead` comes where a call to the shelf failed, by which its count of faults rose, `Text` where the bytes are too
+/// many or give no table, with the cause, and `NoMemory` where no memory was to be had for the bytes.
 pub fn table_of_file<H: Shelf>(
     alloc: Global,
     shelf: &mut H,

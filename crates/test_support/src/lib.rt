@@ -1,4 +1,5 @@
-//! What tests and games share: tables of flows from the texts of traces and from files, small halls, and small runs in them.
+//! What tests and games share: tables of flows from the texts of traces and from files, small halls, and small runs in
+//! them.
 #![tactic(auto)]
 
 mod asks;

@@ -23,8 +23,9 @@ pub struct SmallRun {
 }
 
 impl SmallRun {
-    /// A new hall of a table's coflows, each of weight 1. Its session has asked that they join, in the order of their numbers, and are ordered.
-    /// The journal takes entries up to the limit, from 1 to 2^23, and the runner's driver so many calls.
+    /// A new hall of a table's coflows, each of weight 1. Its session has asked that they join, in the order of their
+    /// numbers, and are ordered. The journal takes entries up to the limit, from 1 to 2^23, and the runner's driver so
+    /// many calls.
     ///
     /// The error is want of memory.
     pub fn of_table<R: Wait>(

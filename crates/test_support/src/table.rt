@@ -12,8 +12,8 @@ use trace_reader::read_trace;
 
 /// The table of a trace's text, with units of that size.
 ///
-/// `TooLong` comes where the text has more than 2^26 bytes, `Trace` where it is no trace, with its first fault, and `Table` where the trace makes no table, with the cause. Want of memory comes as the
-/// fault of a trace or of a table.
+/// `TooLong` comes where the text has more than 2^26 bytes, `Trace` where it is no trace, with its first fault, and
+/// `Table` where the trace makes no table, with the cause. Want of memory comes as the fault of a trace or of a table.
 pub fn table_of_text(alloc: Global, text: &[u8], unit: UnitSize) -> Result<Table, TextFault>
     ensures table { IfOk result (λ table. IsTableOf (trace_of text.now) unit.megabytes table) }
     ensures within_limits { IfOk result IsTable }

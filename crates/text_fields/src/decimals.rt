@@ -6,14 +6,16 @@ ghost use Rattle.text_fields.specs.Decimals.{IsDecimalOf, IsFraction, is_point};
 
 use crate::numbers::{is_number, number_of};
 
-/// A decimal, rounded up to millionths and rounded up to wholes. Each is at most 2^64 - 1, which also stands for all that is more.
+/// A decimal, rounded up to millionths and rounded up to wholes. Each is at most 2^64 - 1, which also stands for all
+/// that is more.
 #[derive(Clone, Copy, Debug, PartialEq, Eq)]
 pub struct Decimal {
     pub millionths: u64,
     pub wholes: u64,
 }
 
-/// The decimal that the field spells. `None` where the field is not a number, and not a number, a point and one or more digits.
+/// The decimal that the field spells. `None` where the field is not a number, and not a number, a point and one or more
+/// digits.
 pub fn decimal_of(field: &[u8]) -> Option<Decimal>
     ensures { IsDecimalOf (λ v. v.millionths) (λ v. v.wholes) field.now result }
 {
@@ -55,7 +57,8 @@ fn has_zeros_alone(digits: &[u8]) -> bool
 /// What one in the last of 0 to 6 digits behind a point counts, in millionths.
 static POWERS: [u64; 7] = [1000000, 100000, 10000, 1000, 100, 10, 1];
 
-/// The digits behind a point as millionths, rounded up. The first six count, and one more where a later one is not zero.
+/// The digits behind a point as millionths, rounded up. The first six count, and one more where a later one is not
+/// zero.
 fn fraction_of(digits: &[u8]) -> u64
     requires { list_all digit digits.now ≡ true }
     ensures value { IsFraction digits.now result }

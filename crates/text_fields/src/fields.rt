@@ -20,7 +20,8 @@ impl<'a> Model for Fields<'a> {
 }
 
 impl<'a> Fields<'a> {
-    /// The fields of a whole line, which has this number. Blanks are tabs, carriage returns and spaces. A line feed in it is part of a field.
+    /// The fields of a whole line, which has this number. Blanks are tabs, carriage returns and spaces. A line feed in
+    /// it is part of a field.
     pub fn new(line: u32, text: &'a [u8]) -> Self
         ensures { result ≡ record { number = line; texts = fields text.now } }
     {

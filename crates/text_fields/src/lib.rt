@@ -1,4 +1,5 @@
-//! Lines, fields and numbers of a text that people write: what the readers of a trace, of weights and of the words of the command line share.
+//! Lines, fields and numbers of a text that people write: what the readers of a trace, of weights and of the words of
+//! the command line share.
 #![tactic(auto)]
 
 mod decimals;

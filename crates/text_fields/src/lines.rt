@@ -8,7 +8,8 @@ ghost use Rattle.text_fields.specs.Lines.{CutsLine, Line, TakesLine, is_line_fee
 use crate::fields::Fields;
 use std::marker::Model;
 
-/// The lines with fields that are still to be read. Contracts see the list of these lines, each with its number and its fields.
+/// The lines with fields that are still to be read. Contracts see the list of these lines, each with its number and its
+/// fields.
 #[derive(Drop)]
 pub struct Lines<'a> {
     number: u32,
@@ -24,8 +25,8 @@ impl<'a> Model for Lines<'a> {
 }
 
 impl<'a> Lines<'a> {
-    /// The lines of a whole text of at most 2^26 bytes. Lines are cut by line feeds and counted from 1, blank ones included; the last one needs no
-    /// line feed.
+    /// The lines of a whole text of at most 2^26 bytes. Lines are cut by line feeds and counted from 1, blank ones
+    /// included; the last one needs no line feed.
     pub fn new(text: &'a [u8]) -> Self
         requires { length text.now ≤ MAX_TEXT }
         ensures { result ≡ lines_of text.now }

@@ -12,7 +12,8 @@ pub fn is_number(field: &[u8]) -> bool
     !field.is_empty() && has_digits_alone(field)
 }
 
-/// The number that the field spells, or 2^64 - 1 where it is greater. `None` where the field is not one or more decimal digits.
+/// The number that the field spells, or 2^64 - 1 where it is greater. `None` where the field is not one or more decimal
+/// digits.
 pub fn number_of(field: &[u8]) -> Option<u64>
     ensures { IsNumberOf field.now result }
 {

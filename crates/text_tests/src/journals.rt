@@ -19,7 +19,8 @@ fn answer(rt: &impl Abort, alloc: Global, bytes: &[u8]) -> String {
     }
 }
 
-/// Two clients register two coflows and publish an order, and the driver opens three runs, of which the last has nothing to send.
+/// Two clients register two coflows and publish an order, and the driver opens three runs, of which the last has
+/// nothing to send.
 const WORKED: &[u8] = b"sincronia live 1
 entry 1 1 register 1 joined
 entry 2 1 register 2 joined

@@ -1,6 +1,7 @@
-//! Tests of texts, read and written: traces, weights, orders, scripts, words of a command line, reports and journals. A clause
-//! says of each text what its definitions say; that the definitions mean the rules of the formats is what no clause says. Each
-//! row was worked out by hand from those rules, and an answer that is no value is told by the text of its fault.
+//! Tests of texts, read and written: traces, weights, orders, scripts, words of a command line, reports and journals. A
+//! clause says of each text what its definitions say; that the definitions mean the rules of the formats is what no
+//! clause says. Each row was worked out by hand from those rules, and an answer that is no value is told by the text of
+//! its fault.
 #![tactic(auto)]
 
 #[cfg(test)]

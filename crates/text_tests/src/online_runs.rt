@@ -19,7 +19,8 @@ fn answer(rt: &impl Abort, alloc: Global, bytes: &[u8]) -> String {
     }
 }
 
-/// The run of two coflows of 6 units and of 1 unit, of which the second arrives at 4; an order is published every 4 slots.
+/// The run of two coflows of 6 units and of 1 unit, of which the second arrives at 4; an order is published every 4
+/// slots.
 const TWO_COFLOWS: &str = "sincronia online 2
 epoch 0
 place 1 1 in 0 183251937962
@@ -128,7 +129,8 @@ fn edited_texts(rt: HostRuntime) {
     }
 }
 
-/// Whole texts, whether each begins as that of an online run does, and the answers. The third is that of a trace without coflows.
+/// Whole texts, whether each begins as that of an online run does, and the answers. The third is that of a trace
+/// without coflows.
 const WHOLE: &[(&str, bool, &str)] = &[
     ("", false, "line 1"),
     ("sincronia online 2", false, "line 1"),

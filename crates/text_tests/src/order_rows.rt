@@ -45,7 +45,8 @@ fn told(rt: &impl Abort, alloc: Global, order: &[u32]) -> String {
     text
 }
 
-/// Texts, and their orders or first faults. A `/` stands for a line end. Coflow 7 has the number 0, and coflow 3 the number 1.
+/// Texts, and their orders or first faults. A `/` stands for a line end. Coflow 7 has the number 0, and coflow 3 the
+/// number 1.
 const ROWS: &str = "7/3 => order 0 1
 3/7/ => order 1 0
 / \t3//\r/\t7 /  => order 1 0

@@ -120,7 +120,8 @@ fn push_lines(rt: &impl Abort, text: &mut String, short: &str) {
     }
 }
 
-/// Texts, in which a `/` stands for a line end, and the line at which each is refused. The last ones are those of a report without places.
+/// Texts, in which a `/` stands for a line end, and the line at which each is refused. The last ones are those of a
+/// report without places.
 const TEXTS: &str = "/ => 1
 sincronia 3/ => 1
 sincronia 01/ => 1
@@ -189,8 +190,8 @@ fn edited(rt: &impl Abort, alloc: Global, number: &str, put: &str) -> String {
     text
 }
 
-/// A line's number, what is put in its place, in which a `/` stands for a line end, and the line at which the text is refused: lines left out, doubled or cut, and numbers with a leading
-/// zero or past their limits.
+/// A line's number, what is put in its place, in which a `/` stands for a line end, and the line at which the text is
+/// refused: lines left out, doubled or cut, and numbers with a leading zero or past their limits.
 const EDITS: &str = "2: => 2
 3: => 0
 3:place 2 1 in 0 366503875925 4 => 3

@@ -44,7 +44,8 @@ fn table_of_two(rt: &impl Abort, alloc: Global) -> Table {
     had(rt, Table::build(alloc, &trace, 1))
 }
 
-/// Texts, and their scripts or first faults. A `/` stands for a line end. Coflow 1 has the number 0, and coflow 2 the number 1.
+/// Texts, and their scripts or first faults. A `/` stands for a line end. Coflow 1 has the number 0, and coflow 2 the
+/// number 1.
 const ROWS: &str = " => script 0
 / \r/\t/ => script 0
 slot => script 0 slot

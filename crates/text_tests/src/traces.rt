@@ -6,7 +6,8 @@ use std::alloc::Global;
 use std::process::Abort;
 use trace_reader::read_trace;
 
-/// Adds what a trace says of a coflow: its id, its arrival, its mappers, and for each reducer the location and the millionths.
+/// Adds what a trace says of a coflow: its id, its arrival, its mappers, and for each reducer the location and the
+/// millionths.
 fn tell_coflow(rt: &impl Abort, text: &mut String, coflow: &CoflowLine) {
     had(rt, write!(text, "; {} {},", coflow.id, coflow.arrival));
     for mapper in coflow.mappers.as_slice() {

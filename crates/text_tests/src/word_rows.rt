@@ -43,7 +43,8 @@ fn said(rt: &impl Abort, alloc: Global, words: &[String]) -> String {
     }
 }
 
-/// Adds a job: its command, with the names or the number behind it, `-` where there is no second one, each before a space.
+/// Adds a job: its command, with the names or the number behind it, `-` where there is no second one, each before a
+/// space.
 fn tell_job(rt: &impl Abort, text: &mut String, job: Job<'_>) {
     match job {
         Job::Plan { trace } => tell_names(rt, text, "Plan", trace, "-"),
@@ -72,7 +73,8 @@ fn tell_name(rt: &impl Abort, text: &mut String, name: &str) {
     had(rt, text.push_str(" "));
 }
 
-/// Adds the weights, `-` where there are none, and the values of `--unit`, `--agents`, `--epoch`, `--run`, `--slot-ms`, `--classes` and `--fold`.
+/// Adds the weights, `-` where there are none, and the values of `--unit`, `--agents`, `--epoch`, `--run`, `--slot-ms`,
+/// `--classes` and `--fold`.
 fn tell_options(rt: &impl Abort, text: &mut String, options: Options<'_>) {
     had(rt, text.push_str(options.weights.unwrap_or("-")));
     tell_value(rt, text, options.unit.megabytes);

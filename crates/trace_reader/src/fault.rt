@@ -34,13 +34,15 @@ pub enum TraceFault {
         line: u32,
         id: u32,
     },
-    /// This location is greater than the number of ports in the header. It is told as 2^64 - 1 where it is greater than that.
+    /// This location is greater than the number of ports in the header. It is told as 2^64 - 1 where it is greater than
+    /// that.
     #[error("line {line} port {port} out of range")]
     PortRange {
         line: u32,
         port: u64,
     },
-    /// This quantity is outside its range. A count is told as 2^64 - 1 where it is greater. Megabytes are told rounded up.
+    /// This quantity is outside its range. A count is told as 2^64 - 1 where it is greater. Megabytes are told rounded
+    /// up.
     #[error("line {line}: {which:?} of {count} out of range")]
     Limit {
         line: u32,

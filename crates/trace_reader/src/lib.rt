@@ -1,5 +1,5 @@
-//! Reading of a coflow trace, of which the answer is exactly known: a text gives the trace of its fields, or the first fault in reading order is
-//! told.
+//! Reading of a coflow trace, of which the answer is exactly known: a text gives the trace of its fields, or the first
+//! fault in reading order is told.
 #![tactic(auto)]
 
 mod back;

@@ -1,7 +1,8 @@
 //! What a value behind a turnstile means.
 ghost use Rattle.std.specs.Prelude.{ℕ, List};
 
-/// A value that means a list of entries and a setting. It has no calls: the list and the setting are what contracts see.
+/// A value that means a list of entries and a setting. It has no calls: the list and the setting are what contracts
+/// see.
 pub trait Chronicle {
     /// What a caller adds to the list.
     type Entry;

@@ -18,8 +18,9 @@ use std::marker::Model;
 use std::snapshot::Snapshot;
 use std::sync::Wait;
 
-/// One value behind a lock by tickets (Reed and Kanodia, "Synchronization with Eventcounts and Sequencers", CACM 1979): a caller takes the next ticket, and has the turn once that ticket is served.
-/// The value means a list of entries, each made by one caller, and a setting, which stays the one that it had at `new`.
+/// One value behind a lock by tickets (Reed and Kanodia, "Synchronization with Eventcounts and Sequencers", CACM 1979):
+/// a caller takes the next ticket, and has the turn once that ticket is served. The value means a list of entries, each
+/// made by one caller, and a setting, which stays the one that it had at `new`.
 #[derive(Drop)]
 pub struct Turnstile<T: Chronicle> {
     table: Table<Option<T>, View<T::Entry, T::Setting>, Snapshot<T>, Tickets, Global>,
@@ -44,7 +45,8 @@ pub struct TurnstileBack<T: Chronicle> {
 }
 
 impl<T: Chronicle + Drop> Turnstile<T> {
-    /// Puts a value with an empty list behind a new turnstile, and makes its root. `NoMemory` is want of memory, and drops the value.
+    /// Puts a value with an empty list behind a new turnstile, and makes its root. `NoMemory` is want of memory, and
+    /// drops the value.
     pub fn new(alloc: Global, value: T) -> Result<(Turnstile<T>, Root<T>), NoMemory>
         requires empty { T.entries value ≡ [] }
         ensures setting { IfOk result (λ made. made.0.setting ≡ T.setting value) }
@@ -68,7 +70,8 @@ impl<T: Chronicle + Drop> Turnstile<T> {
 }
 
 impl<T: Chronicle> Turnstile<T> {
-    /// Makes a seat with the next number, from 1 on. It has seen what the root has seen. A root makes at most 2^32 - 1 seats.
+    /// Makes a seat with the next number, from 1 on. It has seen what the root has seen. A root makes at most 2^32 - 1
+    /// seats.
     pub fn seat(&self, root: &mut Root<T>) -> TurnSeat<T>
         requires own { root.old.table ≡ self.now.table }
         requires room { root.old.made < 2 ^ 32 - 1 }
@@ -82,8 +85,8 @@ impl<T: Chronicle> Turnstile<T> {
         }
     }
 
-    /// Waits for the seat's turn, and hands out the value.
-    /// Its list begins with all that the seat had seen, and its entries of the seat's number are exactly those that the seat had seen.
+    /// Waits for the seat's turn, and hands out the value. Its list begins with all that the seat had seen, and its
+    /// entries of the seat's number are exactly those that the seat had seen.
     pub fn enter<R: Wait>(&self, rt: &R, seat: &mut TurnSeat<T>) -> Turn<T>
         requires own { seat.old.table ≡ self.now.table }
         requires free { seat.old.in_turn ≡ false }
@@ -95,7 +98,8 @@ impl<T: Chronicle> Turnstile<T> {
         Turn { value, due: Due }
     }
 
-    /// Puts the value back and ends the turn. Its list is the one at entering, or that list with one entry of the seat's number. The seat has then seen it.
+    /// Puts the value back and ends the turn. Its list is the one at entering, or that list with one entry of the
+    /// seat's number. The seat has then seen it.
     pub fn leave(&self, seat: &mut TurnSeat<T>, turn: Turn<T>)
         requires own { seat.old.table ≡ self.now.table }
         requires turn { seat.old.in_turn ≡ true }
@@ -107,7 +111,8 @@ impl<T: Chronicle> Turnstile<T> {
         end_turn(&self.table.shared, &mut seat.place, value);
     }
 
-    /// The same as `enter` for the root, whose number is 0. Each entry was made by the root or by a seat that it has made.
+    /// The same as `enter` for the root, whose number is 0. Each entry was made by the root or by a seat that it has
+    /// made.
     pub fn enter_root<R: Wait>(&self, rt: &R, root: &mut Root<T>) -> Turn<T>
         requires own { root.old.table ≡ self.now.table }
         requires free { root.old.in_turn ≡ false }
@@ -132,9 +137,9 @@ impl<T: Chronicle> Turnstile<T> {
         end_turn(&self.table.shared, &mut root.place, value);
     }
 
-    /// Takes a seat back, also while the root has the turn. The root has then seen all that the seat had seen, and keeps the seat's number with that list.
-    /// Each entry was made by the root or by a seat that it has made, no more seats came back than it has made,
-    /// and the seat had the root's setting.
+    /// Takes a seat back, also while the root has the turn. The root has then seen all that the seat had seen, and
+    /// keeps the seat's number with that list. Each entry was made by the root or by a seat that it has made, no more
+    /// seats came back than it has made, and the seat had the root's setting.
     pub fn rejoin(&self, root: &mut Root<T>, seat: TurnSeat<T>)
         requires own { (root.old.table ≡ self.now.table) × (seat.table ≡ self.now.table) }
         requires free { seat.in_turn ≡ false }
@@ -155,8 +160,9 @@ impl<T: Chronicle> Turnstile<T> {
         root.back += 1;
     }
 
-    /// The root and the seat tell each other what they have seen. Both have then seen one list, and each keeps its number and its own entries.
-    /// Each entry of that list was made by the root or by a seat that it has made, and the two have one setting.
+    /// The root and the seat tell each other what they have seen. Both have then seen one list, and each keeps its
+    /// number and its own entries. Each entry of that list was made by the root or by a seat that it has made, and the
+    /// two have one setting.
     pub fn meet(&self, root: &mut Root<T>, seat: &mut TurnSeat<T>)
         requires own { (root.old.table ≡ self.now.table) × (seat.old.table ≡ self.now.table) }
         requires free { (root.old.in_turn ≡ false) × (seat.old.in_turn ≡ false) }
@@ -173,8 +179,9 @@ impl<T: Chronicle> Turnstile<T> {
         tell(steps, &mut root.place, &mut seat.place);
     }
 
-    /// Takes the value out, once all seats came back. It needs no memory, so it always answers `Ok`.
-    /// Its list begins with all that the root has seen. The entries of number 0 are exactly the root's own, those of each seat's number exactly the ones that the root keeps for that seat, and no other number has an entry.
+    /// Takes the value out, once all seats came back. It needs no memory, so it always answers `Ok`. Its list begins
+    /// with all that the root has seen. The entries of number 0 are exactly the root's own, those of each seat's number
+    /// exactly the ones that the root keeps for that seat, and no other number has an entry.
     pub fn close(self, root: Root<T>) -> Result<T, TurnstileBack<T>>
         requires own { root.table ≡ self.table }
         requires free { root.in_turn ≡ false }

@@ -1,4 +1,5 @@
-//! What a place at the turnstile's table knows, and the rule of that table. Views stand in proofs alone: no value of these types is made.
+//! What a place at the turnstile's table knows, and the rule of that table. Views stand in proofs alone: no value of
+//! these types is made.
 use crate::chronicle::Chronicle;
 use atomic_table::TableRule;
 use std::collections::LinkedList;

@@ -1,4 +1,5 @@
-//! Weights of coflows, read from a text. The weights are those that the text says, or the first fault in reading order is told.
+//! Weights of coflows, read from a text. The weights are those that the text says, or the first fault in reading order
+//! is told.
 #![tactic(auto)]
 
 mod fault;

@@ -14,12 +14,14 @@ use coflow_units::{CoflowLine, Items, NoMemory, Trace};
 use indexmap::{IndexMap, IndexSet};
 use std::alloc::Global;
 
-/// Reads the weights of the coflows of a trace from a text of at most 2^26 bytes. Each line with fields has two: the id of a coflow and its
-/// weight, from 1 to 2^32. The answer has a weight for each coflow, by number. A coflow whose id no line has gets the weight 1.
+/// Reads the weights of the coflows of a trace from a text of at most 2^26 bytes. Each line with fields has two: the id
+/// of a coflow and its weight, from 1 to 2^32. The answer has a weight for each coflow, by number. A coflow whose id no
+/// line has gets the weight 1.
 ///
-/// A text that is not so is refused, with the first fault in reading order. Lines are read one after another. In a line these are looked at in
-/// turn: the form of field 1 (`BadLine`), that a coflow has this id (`UnknownId`), that no earlier line has it (`DuplicateId`), the form of
-/// field 2 (`BadLine`), its range (`Limit` of `Weight`), and that there is no third field (`BadLine`). `NoMemory` may come in place of any answer.
+/// A text that is not so is refused, with the first fault in reading order. Lines are read one after another. In a line
+/// these are looked at in turn: the form of field 1 (`BadLine`), that a coflow has this id (`UnknownId`), that no
+/// earlier line has it (`DuplicateId`), the form of field 2 (`BadLine`), its range (`Limit` of `Weight`), and that
+/// there is no third field (`BadLine`). `NoMemory` may come in place of any answer.
 pub fn read_weights(alloc: Global, bytes: &[u8], trace: &Trace) -> Result<Items<u64>, WeightsFault>
     requires { length bytes.now ≤ MAX_TEXT }
     ensures { Answers (text_checks bytes.now trace.now.coflows)

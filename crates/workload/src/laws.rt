@@ -12,14 +12,16 @@ ghost use Rattle.workload.specs.Coflows.{made_coflows};
 ghost use Rattle.workload.specs.Made.{made_trace, made_weights};
 ghost use Rattle.workload.specs.Text.{trace_text, weights_text};
 
-/// The trace of each seed is read: it is not too long, all checks of a trace hold, and it says the coflows that were drawn, for 150 ports.
+/// The trace of each seed is read: it is not too long, all checks of a trace hold, and it says the coflows that were
+/// drawn, for 150 ports.
 pub fn made_trace_is_read()
     ensures short { (seed : ℕ) → length (trace_text (made_coflows seed)) ≤ MAX_TEXT }
     ensures reads { (seed : ℕ) → first_fault (trace_checks (trace_text (made_coflows seed))) ≡ None }
     ensures is { (seed : ℕ) → trace_of (trace_text (made_coflows seed)) ≡ made_trace seed }
 {}
 
-/// The weights of each seed are read beside the trace of that seed: the text is not too long, all checks of weights hold, and each coflow has the weight that was drawn for it.
+/// The weights of each seed are read beside the trace of that seed: the text is not too long, all checks of weights
+/// hold, and each coflow has the weight that was drawn for it.
 pub fn made_weights_are_read()
     ensures short { (seed : ℕ) → length (weights_text (made_coflows seed)) ≤ MAX_TEXT }
     ensures reads { (seed : ℕ) → first_fault
@@ -28,8 +30,9 @@ pub fn made_weights_are_read()
         (trace_of (trace_text (made_coflows seed))).coflows ≡ made_weights seed }
 {}
 
-/// The trace of each seed fits a table of flows, whatever the unit in whole megabytes: neither its units nor its flows are too many. Its 200 coflows have at most 8 reducers
-/// each, of at most 64 megabytes, so there are at most 102400 units.
+/// The trace of each seed fits a table of flows, whatever the unit in whole megabytes: neither its units nor its flows
+/// are too many. Its 200 coflows have at most 8 reducers each, of at most 64 megabytes, so there are at most 102400
+/// units.
 pub fn made_flows_fit()
     ensures units { (seed unit : ℕ) → 1 ≤ unit →
         units_in_all (trace_of (trace_text (made_coflows seed))) unit ≤ 102400 }

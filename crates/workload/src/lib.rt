@@ -1,5 +1,5 @@
-//! Workloads that are made: the scripts of clients, read by their grammar, and traces with weights that are drawn from a
-//! seed. A seed stands for exactly one trace, byte by byte.
+//! Workloads that are made: the scripts of clients, read by their grammar, and traces with weights that are drawn from
+//! a seed. A seed stands for exactly one trace, byte by byte.
 #![tactic(auto)]
 
 mod coflow;

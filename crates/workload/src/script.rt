@@ -46,15 +46,17 @@ pub struct Script {
     pub rounds: Items<Round>,
 }
 
-/// Reads a script over the coflows of a table from a text of at most 2^26 bytes. Each line with fields is a command `K register ID`,
-/// `K withdraw ID`, `K publish`, `K pull ID` or `K reweigh ID WEIGHT` of the client K, from 1 to 64, or is `slot` or `wait` and ends a round.
-/// Commands behind the last such line are a last round that ends as by `wait`. An id is told as the number of the first coflow that has it.
+/// Reads a script over the coflows of a table from a text of at most 2^26 bytes. Each line with fields is a command `K
+/// register ID`, `K withdraw ID`, `K publish`, `K pull ID` or `K reweigh ID WEIGHT` of the client K, from 1 to 64, or
+/// is `slot` or `wait` and ends a round. Commands behind the last such line are a last round that ends as by `wait`. An
+/// id is told as the number of the first coflow that has it.
 ///
-/// A text that is not so is refused, with the first fault in reading order. Lines are read one after another. In a line these are looked at in
-/// turn: the form of field 1 (`Bad`), the range of a client's number (`Limit` of `Clients`), the word in field 2 (`Bad`), the form of an id and
-/// that a coflow has it (`Bad` at field 3), the form of a weight (`Bad`) and its range (`Limit` of `Weight`), and that there is no further field
-/// (`Bad`). A line without such a fault that is the 65537th one with fields is `Limit` of `Commands` with the count 65537. `NoMemory` may come in
-/// place of any answer.
+/// A text that is not so is refused, with the first fault in reading order. Lines are read one after another. In a line
+/// these are looked at in turn: the form of field 1 (`Bad`), the range of a client's number (`Limit` of `Clients`), the
+/// word in field 2 (`Bad`), the form of an id and that a coflow has it (`Bad` at field 3), the form of a weight (`Bad`)
+/// and its range (`Limit` of `Weight`), and that there is no further field (`Bad`). A line without such a fault that is
+/// the 65537th one with fields is `Limit` of `Commands` with the count 65537. `NoMemory` may come in place of any
+/// answer.
 pub fn read_script(alloc: Global, bytes: &[u8], table: &Table) -> Result<Script, ScriptFault>
     requires { length bytes.now ≤ MAX_TEXT }
     ensures { Answers (text_checks table.now.ids bytes.now)

@@ -17,9 +17,10 @@ ghost use Rattle.world_model.specs.Lawful.{AreDrawnByAgents, ClosesAsSent, IsLeg
 ghost use Rattle.world_model.specs.Played.{AreAgents, AreTaken, events_of, IsPlayed};
 ghost use Rattle.world_model.specs.Rows.{Doubled, DrawnTwice, Listed, ListedMakesRun, SendsNothing, Shorts, Strangers, Turns, Unreported};
 
-/// After every list of steps from a new world, whatever callers, agents and the driver did and in whatever order: the journal is legal; no pair of a slot and a flow was sent twice; no
-/// flow was sent more units than it has; nothing was sent past the open run; each closing credited to each flow what was sent for it in the run; and each opening granted the grants of its
-/// line, for as long as they allow, so that a flow waits only for a coflow no later in the line.
+/// After every list of steps from a new world, whatever callers, agents and the driver did and in whatever order: the
+/// journal is legal; no pair of a slot and a flow was sent twice; no flow was sent more units than it has; nothing was
+/// sent past the open run; each closing credited to each flow what was sent for it in the run; and each opening granted
+/// the grants of its line, for as long as they allow, so that a flow waits only for a coflow no later in the line.
 pub fn worlds_are_lawful()
     ensures legal { (o : Opening) (agents : ℕ) (events : List Event) → IsOpening o →
         IsLegalWorld (world_of (new_world o agents) events) }
@@ -78,15 +79,17 @@ pub fn runs_are_played()
         IsDriven w.opening w.journal after d → IsPlayed w (world_of w (events_of w agent_at d)) after d }
 {}
 
-/// Who drew or reported a post is one of the agents, after every list of steps from a new world, and no step changes that.
+/// Who drew or reported a post is one of the agents, after every list of steps from a new world, and no step changes
+/// that.
 pub fn drawers_are_agents()
     ensures all { (o : Opening) (agents : ℕ) (events : List Event) → IsOpening o →
         AreDrawnByAgents (world_of (new_world o agents) events) }
     ensures step { (w : WorldFacts) (e : Event) → IsWorld w → AreDrawnByAgents w → AreDrawnByAgents (world_after w e) }
 {}
 
-/// What steps leave as it was: no step changes the opening, a step that is blocked, or answered Full or Busy, changes nothing, one that the master refuses changes nothing but the journal,
-/// and a step at one port leaves the others. Busy comes exactly where a post is to be settled that an agent has drawn and not reported.
+/// What steps leave as it was: no step changes the opening, a step that is blocked, or answered Full or Busy, changes
+/// nothing, one that the master refuses changes nothing but the journal, and a step at one port leaves the others. Busy
+/// comes exactly where a post is to be settled that an agent has drawn and not reported.
 pub fn steps_leave_the_rest()
     ensures opening { (w : WorldFacts) (e : Event) → (world_after w e).opening ≡ w.opening }
     ensures blocked { (w : WorldFacts) (e : Event) → can w e ≡ false →

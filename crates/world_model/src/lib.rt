@@ -1,4 +1,5 @@
-//! The world of interleavings: every step that callers, agents and the driver of runs may take, in any order, and the law that holds after every list of steps.
+//! The world of interleavings: every step that callers, agents and the driver of runs may take, in any order, and the
+//! law that holds after every list of steps.
 #![tactic(auto)]
 
 mod event;

@@ -21,8 +21,9 @@ pub enum Stage {
     TakenBack,
 }
 
-/// An ingress port: slot and flow of its last post, with slot 0 where there was none, what became of it, its count, what was settled since a run was opened last, and the units that
-/// were sent for the post. The count is the length of the run once the grant is posted, and the units that were sent once they are reported.
+/// An ingress port: slot and flow of its last post, with slot 0 where there was none, what became of it, its count,
+/// what was settled since a run was opened last, and the units that were sent for the post. The count is the length of
+/// the run once the grant is posted, and the units that were sent once they are reported.
 #[derive(Clone, Copy, Debug, PartialEq, Eq)]
 pub struct PortState {
     pub slot: u64,
@@ -69,7 +70,8 @@ impl PortState {
         }
     }
 
-    /// The word that the port shows: its stage, 0 where it is idle, and slot and flow of the last post. The slot is below 2^41, and the flow below 2^20.
+    /// The word that the port shows: its stage, 0 where it is idle, and slot and flow of the last post. The slot is
+    /// below 2^41, and the flow below 2^20.
     fn word(&self) -> u64
         requires { FitsWord self.now.slot self.now.flow }
         ensures { result ≡ word_of (stage_of self.now.stage) self.now.slot self.now.flow }
@@ -95,8 +97,9 @@ impl PortState {
         .bits()
     }
 
-    /// Settles the last post: by the count where it was reported, and by 0 where nobody drew it, which takes it back. Where an agent has drawn it and has not reported, the
-    /// answer is Busy with the word, and nothing changes. Where nothing was posted or the post was taken back, the answer is 0, and nothing changes.
+    /// Settles the last post: by the count where it was reported, and by 0 where nobody drew it, which takes it back.
+    /// Where an agent has drawn it and has not reported, the answer is Busy with the word, and nothing changes. Where
+    /// nothing was posted or the post was taken back, the answer is 0, and nothing changes.
     pub(crate) fn settle(&mut self) -> Happened
         requires { FitsWord self.old.slot self.old.flow }
         ensures answer { result ≡ answered_by (port_of self.old) (stage_of self.old.stage) }

@@ -19,9 +19,11 @@ use master_core::{Command, Entry, Master, Reply};
 use std::alloc::Global;
 use std::marker::Model;
 
-/// A master, agents, a port for each ingress, and the runs that agents sent. It takes the steps of callers, agents and the driver of runs in any order, one at a time.
+/// A master, agents, a port for each ingress, and the runs that agents sent. It takes the steps of callers, agents and
+/// the driver of runs in any order, one at a time.
 ///
-/// Contracts see a `World` as the opening and the journal of its master, the number of agents, what each port tells, and the runs that were sent, the first first.
+/// Contracts see a `World` as the opening and the journal of its master, the number of agents, what each port tells,
+/// and the runs that were sent, the first first.
 #[derive(Drop)]
 pub struct World {
     master: Master,
@@ -44,7 +46,8 @@ impl Model for World {
 }
 
 impl World {
-    /// A world of this master, whose journal is empty, and of so many agents. Nothing is posted and nothing sent. The error is want of memory.
+    /// A world of this master, whose journal is empty, and of so many agents. Nothing is posted and nothing sent. The
+    /// error is want of memory.
     pub fn new(alloc: Global, master: Master, agents: u32) -> Result<World, NoMemory>
         requires { master.journal ≡ [] }
         ensures world { IfOk result (λ w. w ≡ new_world master.opening agents) }
@@ -65,10 +68,12 @@ impl World {
 
     /// Takes one step, where it may be taken.
     ///
-    /// `Blocked` comes exactly where the step may not be taken, and changes nothing. `Busy` comes exactly where the step settles a post that an agent has drawn and not reported;
-    /// it tells the word of the port, and changes nothing. A step that the master answers by `Full` changes nothing either, and one that it answers by another refusal changes nothing
-    /// but the journal. `NoMemory` is want of memory for one more sent run: it comes only from `Send`, where that step might be taken, and changes nothing. Every other answer, and the
-    /// world after it, is that of the definition.
+    /// `Blocked` comes exactly where the step may not be taken, and changes nothing. `Busy` comes exactly where the
+    /// step settles a post that an agent has drawn and not reported; it tells the word of the port, and changes
+    /// nothing. A step that the master answers by `Full` changes nothing either, and one that it answers by another
+    /// refusal changes nothing but the journal. `NoMemory` is want of memory for one more sent run: it comes only from
+    /// `Send`, where that step might be taken, and changes nothing. Every other answer, and the world after it, is that
+    /// of the definition.
     pub fn step(&mut self, event: Event) -> Happened
         ensures answer { result ≢ Happened.NoMemory → result ≡ happened self.old event }
         ensures world { result ≢ Happened.NoMemory → self.new ≡ world_after self.old event }
@@ -101,7 +106,8 @@ impl World {
         &self.master
     }
 
-    /// The master's journal. It is legal, each closing in it credited what was sent in its run, and each opening granted the grants of its line.
+    /// The master's journal. It is legal, each closing in it credited what was sent in its run, and each opening
+    /// granted the grants of its line.
     pub fn journal(&self) -> &[Entry]
         ensures journal { result.now ≡ self.now.journal }
         ensures legal { IsLegalWorld self.now }
@@ -119,8 +125,9 @@ impl World {
         self.agents
     }
 
-    /// An ingress port: the stage of its last post, its count, which is the length of the run once the grant is posted and the units sent once they are reported, what is settled
-    /// for it, and the units that were sent for it. The master's table tells the number of ports.
+    /// An ingress port: the stage of its last post, its count, which is the length of the run once the grant is posted
+    /// and the units sent once they are reported, what is settled for it, and the units that were sent for it. The
+    /// master's table tells the number of ports.
     pub fn port(&self, port: u32) -> PortState
         requires { port < self.now.opening.table.ports }
         ensures port { port_of result ≡ port_at self.now port }
@@ -130,8 +137,8 @@ impl World {
         self.ports[port as usize]
     }
 
-    /// The runs that agents sent, the first first. No pair of a slot and a flow stands twice in them, no flow has more units there than it has, and none stands past the open run.
-    /// The world has what every step keeps.
+    /// The runs that agents sent, the first first. No pair of a slot and a flow stands twice in them, no flow has more
+    /// units there than it has, and none stands past the open run. The world has what every step keeps.
     pub fn sent(&self) -> &[SentRun]
         ensures sent { result.now ≡ self.now.sent }
         ensures kept { IsWorld self.now }
@@ -346,7 +353,8 @@ impl World {
         true
     }
 
-    /// Whether the port has no grant in the open run, of so many slots, or is settled, with its number noted where that is less.
+    /// Whether the port has no grant in the open run, of so many slots, or is settled, with its number noted where that
+    /// is less.
     fn is_done(&self, port: u32, slots: u64) -> bool
         requires port_in { port < self.now.opening.table.ports }
         requires open { slots_of (run_of self.now) ≡ Some slots }
