@@ -1,6 +1,6 @@
-//! What an online run may do next.
+//! What an online run or a replay may do next.
 
-/// What an online run does next. Coflows are told by their numbers.
+/// What an online run or a replay does next. Coflows are told by their numbers.
 #[derive(Clone, Copy, Debug, PartialEq, Eq)]
 pub enum Action {
     /// The coflow joins: it has arrived.
@@ -9,7 +9,7 @@ pub enum Action {
     Withdraw(u32),
     /// The coflows that are present are ordered anew.
     Publish,
-    /// The master serves for at most so many slots.
+    /// Those that are present are served for at most so many slots.
     Run(u64),
     /// Nobody owes anything. Slots pass, up to the one before this slot.
     Skip(u64),

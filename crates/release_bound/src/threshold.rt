@@ -2,14 +2,15 @@
 ghost use Rattle.std.specs.Prelude.{◌≡◌};
 ghost use Rattle.release_bound.specs.ReleaseOrder.{quarters_of};
 
-/// From which part of the load of a port on an arrival counts as late.
+/// How many times the load of a port an arrival must be later than to count as late: where the threshold is above 0, it is
+/// late where its slot is greater than so many times the load.
 #[derive(Clone, Copy, Debug, PartialEq, Eq)]
 pub enum Threshold {
     /// Every arrival is late, so each coflow pays for its earliest end alone.
     Zero,
     Half,
     ThreeQuarters,
-    /// An arrival is late where the whole load could be served before it.
+    /// An arrival is late where its slot is greater than the load, so the whole load could be served before it.
     One,
     OneAndHalf,
     Two,
@@ -26,7 +27,7 @@ impl Threshold {
         Threshold::Two,
     ];
 
-    /// The part, in quarters of the load.
+    /// How many times the load, in quarters.
     pub(crate) fn quarters(self) -> u128
         ensures { result ≡ quarters_of self }
     {
