@@ -57,6 +57,7 @@ fn tell_job(rt: &impl Abort, text: &mut String, job: Job<'_>) {
         Job::Live { trace, script } => tell_names(rt, text, "Live", trace, script),
         Job::Serve { trace, order } => tell_names(rt, text, "Serve", trace, order),
         Job::Replay { trace } => tell_names(rt, text, "Replay", trace, "-"),
+        Job::Record { trace, policy } => tell_names(rt, text, "Record", trace, policy),
     }
 }
 
@@ -160,7 +161,11 @@ replay t => Replay t - - 1 4 1024 1 8 8 Count
 replay t --epoch 4 --slot-ms 20 => Replay t - - 1 4 4 1 20 8 Count
 --slot-ms=1048576 replay --epoch 1 --weights w t --unit=3 => Replay t - w 3 4 1 1 1048576 8 Count
 replay -- -t => Replay -t - - 1 4 1024 1 8 8 Count
-replay replay => Replay replay - - 1 4 1024 1 8 8 Count";
+replay replay => Replay replay - - 1 4 1024 1 8 8 Count
+replay t --policy fifo => Record t fifo - 1 4 1024 1 8 8 Count
+--policy=abcdefghijklmnop replay --epoch 4 t => Record t abcdefghijklmnop - 1 4 4 1 8 8 Count
+plan t --policy fifo => Plan t - - 1 4 1024 1 8 8 Count
+check t r --policy=z => Check t r - 1 4 1024 1 8 8 Count";
 
 #[test]
 fn lines_that_are_read(rt: HostRuntime) {
@@ -304,6 +309,13 @@ replay t --epoch 0
 replay t --epoch 1099511627777
 replay t --slot-ms 0
 replay t --epoch 4 --epoch=4
+replay t --policy
+replay t --policy=
+replay t --policy Fifo
+replay t --policy a1
+replay t --policy abcdefghijklmnopq
+replay t --policy fifo --policy=fifo
+plan t --policy 1
 replays t";
 
 #[test]
