@@ -16,5 +16,6 @@ mod writing;
 pub use finished::finished_of;
 pub use rows::write_rows;
 pub use stats::stats_of;
+pub use summary::summary_of;
 pub use value::{Finished, Group, Ranks, Stats, Summary, Totals};
 pub use writing::write_stats;

@@ -11,7 +11,7 @@ use coflow_units::NoMemory;
 use std::alloc::Global;
 
 /// How many numbers there are, at most 4096, their sum and their ranks. The error is want of memory.
-pub(crate) fn summary_of(alloc: Global, numbers: &[u64]) -> Result<Summary, NoMemory>
+pub fn summary_of(alloc: Global, numbers: &[u64]) -> Result<Summary, NoMemory>
     requires { length numbers.now ≤ MAX_COFLOWS }
     ensures summary { IfOk result (λ summary. IsSummary numbers.now summary) }
     ensures small { IfOk result IsSmall }

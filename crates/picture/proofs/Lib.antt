@@ -2,9 +2,11 @@ pub mod ColourFacts
 pub mod CurveSteps
 pub mod DrawSteps
 pub mod Keeping
+pub mod LogSteps
 pub mod MeanFacts
 pub mod NumberText
 pub mod OneList
+pub mod PolicySteps
 pub mod ReadBack
 pub mod RowLaws
 pub mod RowSteps

@@ -2,10 +2,13 @@ pub mod Bars
 pub mod Curve
 pub mod Drawing
 pub mod Layout
+pub mod Log
 pub mod Marks
 pub mod Means
 pub mod Order
 pub mod Palette
+pub mod Policies
+pub mod PoliciesSvg
 pub mod Run
 pub mod RunSvg
 pub mod Svg

@@ -92,12 +92,12 @@ fn has_room(picture: &Picture, bar: Bar) -> bool
     requires inside { IsInside picture.now.window bar }
     ensures { result ≡ has_room picture.now bar }
 {
-    let digits = digits_of(id_of(picture, bar.coflow));
+    let digits = digits_of(u64::from(id_of(picture, bar.coflow)));
     6 * digits + 4 <= bar_width(picture, bar)
 }
 
 /// How many digits a number has.
-fn digits_of(number: u32) -> u64
+pub(crate) fn digits_of(number: u64) -> u64
     ensures digits { result ≡ length (decimal number) }
     ensures few { result ≤ 40 }
 {

@@ -49,7 +49,7 @@ fn push_title(text: &mut Vec<u8>, picture: &Picture) -> Result<(), NoMemory>
 }
 
 /// The tenths of the mean of a schedule with this cost, rounded up.
-fn tenths_up(cost: u128, weight: u64) -> u128
+pub(crate) fn tenths_up(cost: u128, weight: u64) -> u128
     requires small { cost ≤ 2 ^ 120 }
     requires some { 0 < weight }
     ensures { result ≡ tenths_up cost weight }
@@ -135,7 +135,13 @@ fn push_lines(text: &mut Vec<u8>, picture: &Picture, mean: Mean) -> Result<(), N
 }
 
 /// A line downwards.
-fn push_line(text: &mut Vec<u8>, dashes: &[u8], x: u64, top: u64, end: u64) -> Result<(), NoMemory>
+pub(crate) fn push_line(
+    text: &mut Vec<u8>,
+    dashes: &[u8],
+    x: u64,
+    top: u64,
+    end: u64,
+) -> Result<(), NoMemory>
     ensures { OnOk result (text.new.items ≡ text.old.items ++ line_text dashes.now x top end) }
 {
     push_number(text, b"<path d='M", x)?;

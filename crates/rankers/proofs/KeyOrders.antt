@@ -119,7 +119,7 @@ by_key_low key (suc n) y has = elim (put_in key n y (by_key key n) has) [
   | inr old ↦ omega (arith, by_key_low key n y old)
 ]
 
-by_key_all : (key : ℕ → ℕ) (n y : ℕ) → y < n → Contains (by_key key n) y
+pub by_key_all : (key : ℕ → ℕ) (n y : ℕ) → y < n → Contains (by_key key n) y
 by_key_all key zero y lt = absurd (omega (arith, lt))
 by_key_all key (suc n) y lt = elim (cases_lt y n) [
   | inl low ↦ put_keeps key n y (by_key key n) (by_key_all key n y low)

@@ -10,9 +10,11 @@ pub mod Noted
 pub mod OneRow
 pub mod OrderPermutations
 pub mod Permutations
+pub mod OwnOrders
 pub mod PlaceOrders
 pub mod RatioOrders
 pub mod RowFacts
+pub mod SecondRounds
 pub mod ServedOrders
 pub mod TableEnds
 pub mod ToldOrders

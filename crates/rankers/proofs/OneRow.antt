@@ -37,10 +37,13 @@ each_new order k permutation lt = record {
       permutation.distinct j k d before lt (sym (get_or-take k order j d before) ∙ at ∙ get_or_default order k 0 d lt);
 }
 
+pub order_fits : (n : ℕ) (order : List ℕ) (place : ℕ) → length order ≡ n → IsPermutation order → IsFirstUnfit n order place → ⊥
+order_fits n order place count permutation unfit =
+    let new = each_new order (place - 1) permutation (omega (arith, unfit.counted, unfit.inside)) in
+    new_or_not n order (place - 1) (subst (λ k. IsNew k order (place - 1)) count new) unfit.unfit
+
 pub fits_nowhere_unfit : (i : Instance) (order : List ℕ) (slots : List (List ℕ)) (place : ℕ) → IsServedOrder i order slots → IsFirstUnfit (length i.coflows) order place → ⊥
-fits_nowhere_unfit i order slots place served unfit =
-    let new = each_new order (place - 1) served.permutation (omega (arith, unfit.counted, unfit.inside)) in
-    new_or_not (length i.coflows) order (place - 1) (subst (λ n. IsNew n order (place - 1)) served.count new) unfit.unfit
+fits_nowhere_unfit i order slots place served unfit = order_fits (length i.coflows) order place served.count served.permutation unfit
 
 pub score_one : (i : Instance) (order : List ℕ) (a b : Scored) → IsScore i order a → IsScore i order b → a ≡ b
 score_one i order (Cost x) (Cost y) (s, so, e) (t, to, f) =

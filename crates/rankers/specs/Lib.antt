@@ -1,10 +1,10 @@
 pub mod ByKey
 pub mod ClassList
 pub mod Comparison
+pub mod Ends
 pub mod FactsTold
 pub mod Kinds
 pub mod Meaning
 pub mod Rounds
 pub mod Rows
 pub mod Scores
-pub mod Served

@@ -1,11 +1,13 @@
--- What an answer is worth: what the schedule that serves it costs, or the first place at which it is no order.
-use Rattle.std.specs.Prelude.{◌≡◌, ℕ, ◌+◌, ◌-◌, ◌<◌, ◌≤◌, ◌⊎◌, List, Contains, length, slice_index, take}
-use Rattle.coflow_units.specs.Completion.{cost}
+-- What comes of an answer, and what it is worth: what the schedule that serves it costs, or the first place at which it is no order.
+use Rattle.std.specs.Prelude.{◌≡◌, ℕ, ◌+◌, ◌-◌, ◌<◌, ◌≤◌, ◌⊎◌, List, Contains, length, map, slice_index, take}
+use Rattle.coflow_units.specs.Completion.{completion, cost}
 use Rattle.coflow_units.specs.Flows.{Instance}
 use Rattle.coflow_units.specs.Served.{IsServed}
 use Rattle.class_rates.specs.Classes.{IsPermutation}
 use Rattle.rankers.specs.declared.row.Scored.{Scored}
 use Rattle.rankers.specs.declared.row.Scored.TheVariants.{Cost, Unfit}
+use Rattle.rankers.specs.declared.scoring.Came.{Came}
+use Rattle.rankers.specs.declared.scoring.Came.TheVariants as came
 
 -- the number at a place, counted from 0, is that of one of n coflows, and stands at no place before
 pub record IsNew (n : ℕ) (order : List ℕ) (k : ℕ) : Type 0 where
@@ -28,6 +30,21 @@ pub record IsServedOrder (i : Instance) (order : List ℕ) (slots : List (List �
   pub count : length order ≡ length i.coflows
   pub permutation : IsPermutation order
   pub served : IsServed i.flows order slots
+
+-- the slots in which a schedule completes the coflows, by number
+abbrev pub ends_in : Instance → List (List ℕ) → List ℕ
+ends_in i slots = map (λ c. completion i.flows slots c) i.coflows
+
+-- The slots of the coflows in the schedule that serves the answer, where that is an order of the coflows, and else the
+-- first place at which it is none.
+abbrev pub IsCame : Instance → List ℕ → Came → Type 0
+IsCame i order (came.Ends ends) = (slots : List (List ℕ)) × IsServedOrder i order slots × (ends ≡ ends_in i slots)
+IsCame i order (came.Unfit place) = IsFirstUnfit (length i.coflows) order place
+
+-- where slots are told, there are as many as this
+abbrev pub HasEach : ℕ → Came → Type 0
+HasEach count (came.Ends ends) = length ends ≡ count
+HasEach count (came.Unfit place) = Unit {0}
 
 -- the cost of the schedule that serves the answer, where that is an order of the coflows, and else the first place at
 -- which it is none

@@ -60,7 +60,7 @@ pub fn compare(
 }
 
 /// Takes the first ranker off the bench.
-fn take_first(bench: &mut Vec<Box<dyn Ranker>>) -> Box<dyn Ranker>
+pub(crate) fn take_first(bench: &mut Vec<Box<dyn Ranker>>) -> Box<dyn Ranker>
     requires { 0 < length bench.old.items }
     ensures { bench.old.items ≡ result ∷ bench.new.items }
 {

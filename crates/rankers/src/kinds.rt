@@ -97,8 +97,8 @@ impl Ranker for Fifo {
     fn note(&mut self, _coflow: u32, _slot: u64) {}
 }
 
-/// The coflow with the least slot that was noted last comes first, and equal ones come by number: of coflows that end, it
-/// keeps the ends of the schedule that it was told. Its name is `attained`.
+/// The coflow with the least slot that was noted last comes first, and equal ones come by number: of coflows that end,
+/// it keeps the ends of the schedule that it was told. Its name is `attained`.
 #[derive(Drop)]
 pub struct Attained {
     slots: Vec<u64>,

@@ -5,15 +5,18 @@ ghost use Rattle.coflow_units.specs.Schedule.{IsValid};
 ghost use Rattle.flow_table.specs.Table.{TableFacts, instance_of};
 ghost use Rattle.rankers.specs.ByKey.{IsByKey, by_key};
 ghost use Rattle.rankers.specs.Comparison.{IsBelowCosts, IsComparison};
-ghost use Rattle.rankers.specs.FactsTold.{FactsTold, IsFacts};
+ghost use Rattle.rankers.specs.Ends.{IsOwn, IsSecondEnds, IsSecondRound};
+ghost use Rattle.rankers.specs.FactsTold.{FactsTold, IsFacts, coflows_in};
 ghost use Rattle.rankers.specs.Kinds.{GoesByRatio, wsebf};
 ghost use Rattle.rankers.specs.Meaning.{Meaning, answer_of};
 ghost use Rattle.rankers.specs.Rounds.{IsRounds, IsRowsFrom};
 ghost use Rattle.rankers.specs.Rows.{Answers, ByKeys, UnfitRows};
+ghost use Rattle.rankers.specs.declared.scoring.Came.TheVariants as came;
 ghost use Rattle.rankers.specs.declared.row.Row.{Row};
 ghost use Rattle.rankers.specs.declared.row.Scored.{Scored};
+ghost use Rattle.rankers.specs.declared.row.Scored.TheVariants as scored;
 ghost use Rattle.report_text.specs.declared.compared.Compare.{Compare};
-ghost use Rattle.std.specs.Prelude.{◌≡◌, ℕ, All, List, ◌≤◌};
+ghost use Rattle.std.specs.Prelude.{◌≡◌, ℕ, All, List, length, ◌≤◌};
 
 /// What the rounds of a ranker are worth depends on its own meaning and the facts alone: not on its place, nor on the
 /// other rankers.
@@ -57,4 +60,19 @@ pub fn costs_are_above_the_bound()
 /// Places at which an answer is no order are as they were worked out by hand.
 pub fn unfit_rows_hold()
     ensures { UnfitRows }
+{}
+
+/// The schedule of a ranker's second round is valid, and it costs what a comparison tells of that round.
+pub fn second_round_is_compared()
+    ensures valid { (i : Instance) (facts : FactsTold) (m : Meaning) (slots : List (List ℕ)) →
+        IsSecondRound i facts m slots → IsValid i.flows slots }
+    ensures cost { (i : Instance) (facts : FactsTold) (m : Meaning) (first second : Scored) (slots : List (List ℕ)) →
+        IsRounds i facts m first second → IsSecondRound i facts m slots →
+        second ≡ scored.Cost (cost i.flows i.weight i.coflows slots) }
+{}
+
+/// The rankers of this crate answer orders of the coflows, whatever they were told.
+pub fn own_answers_are_orders()
+    ensures { (i : Instance) (facts : FactsTold) (m : Meaning) (place : ℕ) → IsFacts facts → IsOwn m →
+        length i.coflows ≡ coflows_in facts → IsSecondEnds i facts m (came.Unfit place) → ⊥ }
 {}

@@ -80,7 +80,7 @@ fn names_of(alloc: Global, bench: &[Box<dyn Ranker>]) -> Result<Vec<Items<u8>>, 
 }
 
 /// The name of a ranker.
-fn name_of(alloc: Global, ranker: &Box<dyn Ranker>) -> Result<Items<u8>, NoMemory>
+pub(crate) fn name_of(alloc: Global, ranker: &Box<dyn Ranker>) -> Result<Items<u8>, NoMemory>
     ensures name { IfOk result (λ name. name ≡ (meaning ranker.now).name) }
     ensures letters { IfOk result IsName }
 {

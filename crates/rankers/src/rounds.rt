@@ -4,21 +4,20 @@ ghost use Rattle.std.specs.List.{range_with_len};
 ghost use Rattle.coflow_units.specs.declared.fabric.Flow.{Flow};
 ghost use Rattle.coflow_units.specs.Completion.{completion};
 ghost use Rattle.coflow_units.specs.declared.limits.TheConstants.{MAX_WEIGHT};
-ghost use Rattle.flow_table.specs.Table.{instance_of};
+ghost use Rattle.flow_table.specs.Table.{IsTable, instance_of};
 ghost use Rattle.rankers.specs.FactsTold.{coflows_in};
 ghost use Rattle.rankers.specs.Meaning.{after_note, after_notes, after_question, answer_of};
 ghost use Rattle.rankers.specs.ByKey.{key_in};
 ghost use Rattle.rankers.specs.Rounds.{IsRounds, IsToldOf, after_completions};
-ghost use Rattle.rankers.specs.Scores.{IsScore};
+ghost use Rattle.rankers.specs.Scores.{HasEach, IsCame, IsScore};
 
 use crate::by_key::fill_by_key;
 use crate::facts::Facts;
 use crate::ranker::Ranker;
 use crate::row::Scored;
-use crate::scoring::{Judged, judge, score};
+use crate::scoring::{Came, score, score_of, serve};
 use coflow_units::NoMemory;
 use flow_table::Table;
-use schedule_model::{completions, cost_of};
 use std::alloc::Global;
 
 /// What the two answers of a ranker are worth.
@@ -57,7 +56,7 @@ pub fn rounds_of(
 }
 
 /// Asks the ranker.
-fn ask(ranker: &mut Box<dyn Ranker>, facts: &Facts, order: &mut [u32])
+pub(crate) fn ask(ranker: &mut Box<dyn Ranker>, facts: &Facts, order: &mut [u32])
     requires { length order.old ≡ coflows_in facts.now }
     ensures answer { order.new ≡ answer_of (meaning ranker.old) facts.now }
     ensures asked { meaning ranker.new ≡ after_question (meaning ranker.old) facts.now }
@@ -82,15 +81,31 @@ fn score_and_tell(
     ensures told { OnOk result
         (IsToldOf (instance_of table.now weights.now) order.old (meaning ranker.old) (meaning ranker.new)) }
 {
-    match judge(alloc, table, order)? {
-        Judged::Served(schedule) => {
-            let ends = completions(alloc, table.flows(), table.coflows(), &schedule)?;
-            drop(schedule);
-            tell(&ends, ranker, order);
-            Ok(Scored::Cost(cost_of(weights, &ends)))
-        }
-        Judged::Unfit(place) => Ok(Scored::Unfit(place)),
+    let came = serve_and_tell(alloc, table, ranker, order)?;
+    Ok(score_of(weights, &came))
+}
+
+/// What comes of the answer in `order`; where it is an order of the coflows, the ranker is told the completions of the
+/// schedule that serves it. Afterwards `order` is free for another answer. The error is want of memory.
+pub(crate) fn serve_and_tell(
+    alloc: Global,
+    table: &Table,
+    ranker: &mut Box<dyn Ranker>,
+    order: &mut [u32],
+) -> Result<Came, NoMemory>
+    requires { length order.old ≡ length table.now.ids }
+    ensures came { IfOk result (λ came. (weights : List ℕ) →
+        IsCame (instance_of table.now weights) order.old came) }
+    ensures told { OnOk result ((weights : List ℕ) →
+        IsToldOf (instance_of table.now weights) order.old (meaning ranker.old) (meaning ranker.new)) }
+    ensures each { IfOk result (HasEach (length table.now.ids)) }
+    ensures table { IsTable table.now }
+{
+    let came = serve(alloc, table, order)?;
+    if let Came::Ends(ends) = &came {
+        tell(ends.as_slice(), ranker, order);
     }
+    Ok(came)
 }
 
 /// What the answer in `order` is worth, where an earlier answer was worth so much: the same answer is not served again.
@@ -117,7 +132,7 @@ fn score_after(
 
 /// Tells the ranker the completion of each coflow, which `ends` has by number: by completion and then by number.
 /// `order` has one place for each coflow, for that order.
-fn tell(ends: &[u64], ranker: &mut Box<dyn Ranker>, order: &mut [u32])
+pub(crate) fn tell(ends: &[u64], ranker: &mut Box<dyn Ranker>, order: &mut [u32])
     requires order { length order.old ≡ length ends.now }
     requires few { length ends.now ≤ 2 ^ 32 }
     ensures { (flows : List Flow) (slots : List (List ℕ)) →

@@ -1,41 +1,46 @@
-//! What an order is worth.
-ghost use Rattle.std.specs.Prelude.{◌≡◌, ◌≤◌, false, All, IfOk, MatchOption, length};
+//! What comes of an answer, and what it is worth.
+ghost use Rattle.std.specs.Prelude.{◌≡◌, ◌≤◌, ◌^◌, ℕ, false, All, IfOk, List, MatchOption, length};
 ghost use Rattle.std.specs.List.{slice_index_or};
 ghost use Rattle.coflow_units.specs.declared.limits.TheConstants.{MAX_WEIGHT};
 ghost use Rattle.class_rates.specs.Classes.{IsPermutation};
-ghost use Rattle.flow_table.specs.Table.{instance_of};
-ghost use Rattle.rankers.specs.Scores.{IsFirstUnfit, IsScore};
-ghost use Rattle.rankers.specs.Served.{IsJudged};
+ghost use Rattle.flow_table.specs.Table.{IsTable, TableFacts, instance_of};
+ghost use Rattle.rankers.specs.Scores.{HasEach, IsCame, IsFirstUnfit, IsScore};
 
 use crate::row::Scored;
-use coflow_units::NoMemory;
+use coflow_units::{Items, NoMemory};
 use flow_table::Table;
-use schedule_model::{Schedule, completions, cost_of};
+use schedule_model::{completions, cost_of};
 use slot_switch::simulate;
 use std::alloc::Global;
 
-/// What becomes of an answer: the schedule that serves it, where it is an order of the coflows, or the first place at
-/// which it is none.
+/// What came of an answer.
 #[derive(Drop)]
-pub enum Judged {
-    Served(Schedule),
+pub enum Came {
+    /// The answer is an order of the coflows: by number, the slots in which the schedule that serves it completes them.
+    Ends(Items<u64>),
+    /// It is none: the first place, counted from 1, whose number is not a coflow's or stood earlier.
     Unfit(u32),
 }
 
-/// Serves the answer, which has one number for each coflow of the table.
-pub fn judge(alloc: Global, table: &Table, order: &[u32]) -> Result<Judged, NoMemory>
+/// Serves the answer, which has one number for each coflow of the table. The error is want of memory.
+pub(crate) fn serve(alloc: Global, table: &Table, order: &[u32]) -> Result<Came, NoMemory>
     requires { length order.now ≡ length table.now.ids }
-    ensures { IfOk result (λ judged. IsJudged table.now order.now judged) }
+    ensures came { IfOk result (λ came. (weights : List ℕ) →
+        IsCame (instance_of table.now weights) order.now came) }
+    ensures each { IfOk result (HasEach (length table.now.ids)) }
+    ensures table { IsTable table.now }
 {
-    if let Some(place) = first_unfit(alloc, order, table.coflows())? {
-        return Ok(Judged::Unfit(place));
+    let coflows = table.coflows();
+    if let Some(place) = first_unfit(alloc, order, coflows)? {
+        return Ok(Came::Unfit(place));
     }
     let schedule = simulate(alloc, table, order)?;
-    Ok(Judged::Served(schedule))
+    let ends = completions(alloc, table.flows(), coflows, &schedule)?;
+    Ok(Came::Ends(Items::from_vec(ends)))
 }
 
 /// What the answer is worth.
-pub fn score(
+pub(crate) fn score(
     alloc: Global,
     table: &Table,
     weights: &[u64],
@@ -46,12 +51,21 @@ pub fn score(
     requires order { length order.now ≡ length table.now.ids }
     ensures { IfOk result (λ scored. IsScore (instance_of table.now weights.now) order.now scored) }
 {
-    match judge(alloc, table, order)? {
-        Judged::Served(schedule) => {
-            let ends = completions(alloc, table.flows(), table.coflows(), &schedule)?;
-            Ok(Scored::Cost(cost_of(weights, &ends)))
-        }
-        Judged::Unfit(place) => Ok(Scored::Unfit(place)),
+    let came = serve(alloc, table, order)?;
+    Ok(score_of(weights, &came))
+}
+
+/// What an answer is worth, by what came of it. There is a weight for each coflow.
+pub(crate) fn score_of(weights: &[u64], came: &Came) -> Scored
+    requires each { HasEach (length weights.now) came.now }
+    requires few { length weights.now ≤ 2 ^ 32 }
+    requires weights { All (λ w. w ≤ MAX_WEIGHT) weights.now }
+    ensures { (t : TableFacts) (order : List ℕ) → length weights.now ≡ length t.ids →
+        IsCame (instance_of t weights.now) order came.now → IsScore (instance_of t weights.now) order result }
+{
+    match came {
+        Came::Ends(ends) => Scored::Cost(cost_of(weights, ends.as_slice())),
+        Came::Unfit(place) => Scored::Unfit(*place),
     }
 }
 

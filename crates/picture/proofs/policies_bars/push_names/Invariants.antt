@@ -1,0 +1,7 @@
+-- the names so far stand behind the text
+use Rattle.std.proofs.Common.{◌≡◌, ◌++◌, take}
+use Rattle.picture.specs.PoliciesSvg.{each_policy, name_label}
+use Rattle.picture.proofs.policies_bars.push_names.Given as goal
+
+abbrev pub invariant-loop-place : goal.invariant-loop-place
+invariant-loop-place l = l.text.items ≡ l.fn.text.items ++ each_policy name_label 0 (take l.place l.policies)

@@ -1,0 +1,10 @@
+use Rattle.picture.proofs.TextSteps.{more}
+use Rattle.picture.proofs.policies_curves.push_curve.Goals as goal
+
+pub returns : goal.returns
+returns c =
+    let t = c.args.text.now.items in
+    more t _ _ (more t _ _ (more t _ _ (c.in_ok-extend_from_slice.ensures.items)
+    (rw c.as_slice.ensures at c.in_ok-push_steps.ensures))
+    (c.in_ok-extend_from_slice-2.ensures.items))
+    (rw c.look_of.ensures at c.in_ok-extend_from_slice-3.ensures.items)

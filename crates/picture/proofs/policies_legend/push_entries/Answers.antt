@@ -1,0 +1,10 @@
+use Rattle.std.proofs.Common.{◌<◌, length, arith}
+use Rattle.picture.specs.PoliciesSvg.{policy_entry}
+use Rattle.picture.proofs.PolicySteps.{policy_more}
+use Rattle.picture.proofs.policies_legend.push_entries.Goals as goal
+
+pub loop-place-preserved : goal.loop-place-preserved
+loop-place-preserved c =
+    let lt : c.loop-place.place < length c.as_slice-policies.result.now = omega (arith, c.loop-place-test.true) in
+    policy_more policy_entry c.as_slice-policies.result.now c.loop-place.place c.index-policies-place.result c.args.text.now.items c.loop-place.text.items
+    c.push_entry.new.text.items lt c.index-policies-place.is c.loop-place.invariant c.in_ok-push_entry.ensures
