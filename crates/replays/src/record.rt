@@ -5,10 +5,11 @@ ghost use Rattle.flow_table.specs.Table.{instance_of};
 ghost use Rattle.rankers.specs.Meaning.{Meaning};
 ghost use Rattle.release_bound.specs.Best.{arrivals_cost};
 ghost use Rattle.replays.specs.declared.rows.ReplayFault.TheVariants.{TooMany};
-ghost use Rattle.replays.specs.Kept.{Tells};
+ghost use Rattle.replays.specs.declared.rows.Replayed.TheVariants.{Cost};
+ghost use Rattle.replays.specs.Kept.{Ends, Tells};
 ghost use Rattle.replays.specs.Moments.{Input, first_moment};
 ghost use Rattle.replays.specs.Recorded.{HasForm, IsRecorded};
-ghost use Rattle.replays.specs.Replayed.{IsInput, IsTooManyFor};
+ghost use Rattle.replays.specs.Replayed.{IsInput, IsReplayed, IsTooManyFor};
 
 use crate::kept::Kept;
 use crate::laws::replays_are_one;
@@ -65,10 +66,7 @@ pub fn record_replay(
     replays_are_one();
     let best = best_released(alloc, table, weights, arrivals)?;
     let name = name_of(alloc, &ranker)?;
-    let mut course = course_of(alloc, arrivals, every)?;
-    let mut kept = begin(alloc, table, weights)?;
-    let mut ranker = ranker;
-    let result = serve(alloc, table, weights, &mut course, &mut kept, &mut ranker)?;
+    let Played { result, kept } = play(alloc, table, weights, arrivals, every, ranker)?;
     match result {
         Replayed::Cost(_) => {
             let Recording {
@@ -85,6 +83,42 @@ pub fn record_replay(
             Ok(Recorded::Unfit(report))
         }
     }
+}
+
+/// What comes of a replay that is recorded, and what it keeps.
+#[derive(Drop)]
+struct Played {
+    result: Replayed,
+    kept: Kept,
+}
+
+/// Replays one ranker, and keeps what a record tells.
+fn play(
+    alloc: Global,
+    table: &Table,
+    weights: &[u64],
+    arrivals: &[u64],
+    every: u64,
+    ranker: Box<dyn Ranker>,
+) -> Result<Played, ReplayFault>
+    requires input { IsInput
+        record { table = table.now; weights = weights.now; arrivals = arrivals.now; every = every } }
+    ensures replayed { IfOk result (λ played. IsReplayed
+        record { table = table.now; weights = weights.now; arrivals = arrivals.now; every = every }
+        (meaning ranker) played.result) }
+    ensures ends { IfOk result (λ played. (total : ℕ) → played.result ≡ Cost total → Ends
+        record { table = table.now; weights = weights.now; arrivals = arrivals.now; every = every }
+        (meaning ranker) played.kept) }
+    ensures recorded { IfOk result (λ played. is_some played.kept.recording ≡ true) }
+    ensures too_many { (count : ℕ) → result ≡ Err (TooMany count) → IsTooManyFor
+        record { table = table.now; weights = weights.now; arrivals = arrivals.now; every = every }
+        (meaning ranker) count }
+{
+    let mut course = course_of(alloc, arrivals, every)?;
+    let mut kept = begin(alloc, table, weights)?;
+    let mut ranker = ranker;
+    let result = serve(alloc, table, weights, &mut course, &mut kept, &mut ranker)?;
+    Ok(Played { result, kept })
 }
 
 /// What is kept before the first action of a replay that is recorded. The error is want of memory.
