@@ -2,7 +2,7 @@
 use Rattle.std.specs.Prelude.{◌≡◌, ◌≢◌, List, None, Some, true, codes, drop}
 use Rattle.clap.specs.Words.{App, Rule, first_value, new_app, new_rule, with_rule}
 use Rattle.clap.specs.Simple.{on_top}
-use Rattle.clap.specs.declared.builder.ArgAction.TheVariants.{Set}
+use Rattle.clap.specs.declared.builder.ArgAction.TheVariants.{Set, SetTrue}
 use Rattle.clap.specs.declared.parser.matches.Found.{Found}
 use Rattle.command_words.specs.Line.{IsOnce, Text, Use, uses, value_of}
 
@@ -17,6 +17,10 @@ needed_rule id = record (new_rule id) { action = Some Set; required = true }
 -- An option with one value.
 abbrev pub option_rule : Text → Rule
 option_rule id = record (new_rule id) { action = Some Set; long = Some id }
+
+-- An option without a value.
+abbrev pub flag_rule : Text → Rule
+flag_rule id = record (new_rule id) { action = Some SetTrue; long = Some id }
 
 -- The command before it has arguments. No word asks for help or for the version.
 abbrev pub empty_app : App

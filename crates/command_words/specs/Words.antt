@@ -1,5 +1,6 @@
 -- The words of a command line.
-use Rattle.std.specs.Prelude.{◌≡◌, ℕ, ◌≤◌, true, if◌then◌else◌, List, Option, Some, None, IfSome, codes, drop, option_map}
+use Rattle.std.specs.Prelude.{◌≡◌, ℕ, ◌≤◌, Bool, false, true, if◌then◌else◌, List, Option, Some, None, IfSome, codes, drop}
+use Rattle.std.specs.Prelude.{option_map}
 use Rattle.std.specs.Str.{bytes_eq}
 use Rattle.class_rates.specs.declared.fold.Fold.{Fold}
 use Rattle.class_rates.specs.declared.fold.Fold.TheVariants.{Count, Load}
@@ -46,6 +47,11 @@ abbrev pub IsSetting : ℕ → ℕ → Option Text → ℕ → Type 0
 IsSetting most default None n = n ≡ default
 IsSetting most default (Some text) n = (is_number text ≡ true) × (1 ≤ number text) × (number text ≤ most) ×
     (n ≡ number text)
+
+-- the value that the parser gives a flag is `true` where the flag is used
+abbrev pub is_used : Option Text → Bool
+is_used None = false
+is_used (Some text) = bytes_eq text (codes "true")
 
 -- the way to fold that an option is given: by count where it is not used, and none where its value is no way
 abbrev pub fold_of : Option Text → Option Fold

@@ -1,7 +1,7 @@
 //! Arguments of a simple command, and the fault of a parser that refuses words.
 ghost use Rattle.std.specs.Prelude.{◌≡◌, ◌≢◌, ◌↔◌, IfOk, false};
 ghost use Rattle.clap.specs.Words.{App, app_of, rule_of, with_rule};
-ghost use Rattle.command_words.specs.Parser.{name_rule, needed_rule, option_rule};
+ghost use Rattle.command_words.specs.Parser.{flag_rule, name_rule, needed_rule, option_rule};
 ghost use Rattle.command_words.specs.declared.fault.WordsFault.TheVariants.{Usage};
 
 use crate::fault::WordsFault;
@@ -46,7 +46,7 @@ pub fn needed_name<'a>(alloc: Global, name: &'a str) -> Arg<'a>
 }
 
 /// A word by its place, which may be left out.
-pub(crate) fn name_of<'a>(alloc: Global, name: &'a str) -> Arg<'a>
+pub fn name_of<'a>(alloc: Global, name: &'a str) -> Arg<'a>
     ensures rule { rule_of result ≡ name_rule name.entry.now }
     ensures local { result.global ≡ false }
 {
@@ -59,4 +59,12 @@ pub fn option_named<'a>(alloc: Global, name: &'a str) -> Arg<'a>
     ensures local { result.global ≡ false }
 {
     Arg::new(alloc, name).long(name).action(ArgAction::Set)
+}
+
+/// An option without a value, `--NAME`.
+pub fn flag_named<'a>(alloc: Global, name: &'a str) -> Arg<'a>
+    ensures rule { rule_of result ≡ flag_rule name.entry.now }
+    ensures local { result.global ≡ false }
+{
+    Arg::new(alloc, name).long(name).action(ArgAction::SetTrue)
 }

@@ -10,9 +10,9 @@ mod parser;
 mod values;
 mod words;
 
-pub use arguments::{fault_by, needed_name, option_named, with_arg};
+pub use arguments::{fault_by, flag_named, name_of, needed_name, option_named, with_arg};
 pub use fault::WordsFault;
 pub use job::Job;
 pub use options::{MAX_OPTION_AGENTS, MAX_OPTION_CLASSES, Options};
-pub use values::{is_file_name, setting_of, unit_of};
+pub use values::{is_file_name, is_used, setting_of, unit_of};
 pub use words::{Words, read_words};

@@ -3,7 +3,7 @@ ghost use Rattle.std.specs.Prelude.{◌≡◌, ◌<◌, ◌≤◌, ◌-◌, ◌^
 ghost use Rattle.std.specs.List.{list_all};
 ghost use Rattle.coflow_units.specs.declared.limits.TheConstants.{MAX_UNIT};
 ghost use Rattle.command_words.specs.Jobs.{file_of, is_file_name, is_lower as lower, is_policy, seed_of};
-ghost use Rattle.command_words.specs.Words.{IsSetting, fold_of};
+ghost use Rattle.command_words.specs.Words.{IsSetting, fold_of, is_used};
 
 use class_rates::Fold;
 use coflow_units::{MAX_UNIT, UnitSize};
@@ -97,5 +97,15 @@ pub(crate) fn fold_of(text: Option<&str>) -> Option<Fold>
         "count" => Some(Fold::Count),
         "load" => Some(Fold::Load),
         _ => None,
+    }
+}
+
+/// Whether a flag is used, by the value that the parser gives it.
+pub fn is_used(value: Option<&str>) -> bool
+    ensures { result ≡ is_used (option_map (λ s. s.now) value.entry) }
+{
+    match value {
+        Some(text) => text == "true",
+        None => false,
     }
 }

@@ -1,11 +1,10 @@
 -- The command that the library's parser is given, and what it finds.
-use Rattle.std.specs.Prelude.{◌≡◌, List, [], Some, codes, true}
-use Rattle.clap.specs.Words.{App, Rule, fault_of, first_of, first_value, matches_of, new_app, new_rule, with_rule}
+use Rattle.std.specs.Prelude.{◌≡◌, List, [], codes, true}
+use Rattle.clap.specs.Words.{App, fault_of, first_of, first_value, matches_of, new_app, with_rule}
 use Rattle.clap.specs.Simple.{on_top}
-use Rattle.clap.specs.declared.builder.ArgAction.TheVariants.{SetTrue}
 use Rattle.clap.specs.declared.parser.matches.Found.{Found}
 use Rattle.command_words.specs.Line.{Text}
-use Rattle.command_words.specs.Parser.{needed_rule, with_option}
+use Rattle.command_words.specs.Parser.{flag_rule, needed_rule, with_option}
 
 -- The command before it has arguments. No word asks for help or for the version.
 abbrev pub empty_app : App
@@ -15,10 +14,6 @@ empty_app = on_top (λ s. record s { disable_help_flag = true; disable_version_f
 -- Two names by their places, both needed.
 abbrev pub with_names : App → App
 with_names a = with_rule (with_rule a (needed_rule (codes "TRACE"))) (needed_rule (codes "REPORT"))
-
--- An option without a value.
-abbrev pub flag_rule : Text → Rule
-flag_rule id = record (new_rule id) { action = Some SetTrue; long = Some id }
 
 -- The command, with options of one value each and a flag. An option and a flag stand once at most.
 abbrev pub app : App

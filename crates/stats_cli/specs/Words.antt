@@ -1,12 +1,10 @@
 -- The words of a command line that asks for the numbers of a schedule.
-use Rattle.std.specs.Prelude.{◌≡◌, ℕ, Bool, false, List, [], Option, Some, None, IfSome, codes, if◌then◌else◌, is_some}
-use Rattle.std.specs.Prelude.{option_map}
-use Rattle.std.specs.Str.{bytes_eq}
+use Rattle.std.specs.Prelude.{◌≡◌, ℕ, Bool, List, [], Option, Some, None, IfSome, codes, if◌then◌else◌, is_some, option_map}
 use Rattle.clap.specs.Words.{fault_of, first_of, matches_of}
 use Rattle.coflow_units.specs.declared.limits.TheConstants.{MAX_SLOT_MS, MAX_UNIT}
 use Rattle.command_words.specs.Jobs.{IsFileName}
 use Rattle.command_words.specs.Line.{Text}
-use Rattle.command_words.specs.Words.{IsSetting}
+use Rattle.command_words.specs.Words.{IsSetting, is_used}
 use Rattle.stats_cli.specs.Parser.{app}
 use Rattle.stats_cli.specs.declared.value.StatsWords.{StatsWords}
 
@@ -35,11 +33,6 @@ said_by w = record {
 -- the milliseconds of a slot, where numbers are told in milliseconds too
 abbrev pub ms_in : StatsSaid → Option ℕ
 ms_in said = if said.in_ms then Some said.slot_ms else None
-
--- the value that the parser gives a flag is `true` where the flag is used
-abbrev pub is_used : Option Text → Bool
-is_used None = false
-is_used (Some text) = bytes_eq text (codes "true")
 
 -- What is said is what the arguments have as their values, and each value fits.
 pub record IsSaid (value : Text → Option Text) (said : StatsSaid) : Type 0 where

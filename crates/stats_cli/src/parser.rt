@@ -1,12 +1,12 @@
 //! The words as one simple command.
-ghost use Rattle.std.specs.Prelude.{◌≡◌, ◌≢◌, Err, IfOk, [], false};
-ghost use Rattle.clap.specs.Words.{app_of, fault_of, found_of, rule_of};
+ghost use Rattle.std.specs.Prelude.{◌≡◌, ◌≢◌, Err, IfOk, []};
+ghost use Rattle.clap.specs.Words.{app_of, fault_of, found_of};
 ghost use Rattle.command_words.specs.Line.{texts};
 ghost use Rattle.command_words.specs.declared.fault.WordsFault.TheVariants.{Usage};
-ghost use Rattle.stats_cli.specs.Parser.{IsFound, app, empty_app, flag_rule, with_names};
+ghost use Rattle.stats_cli.specs.Parser.{IsFound, app, empty_app, with_names};
 
-use clap::{Arg, ArgAction, ArgMatches, Command};
-use command_words::{WordsFault, fault_by, needed_name, option_named, with_arg};
+use clap::{ArgMatches, Command};
+use command_words::{WordsFault, fault_by, flag_named, needed_name, option_named, with_arg};
 use std::alloc::{AllocError, Global};
 
 /// What the words give each argument. `Usage` comes where a word is refused, an argument is used twice, or TRACE or
@@ -51,12 +51,4 @@ fn empty_command<'a>(alloc: Global) -> Command<'a>
     Command::new(alloc, "sincronia_stats")
         .disable_help_flag(true)
         .disable_version_flag(true)
-}
-
-/// An option without a value, `--NAME`.
-fn flag_named<'a>(alloc: Global, name: &'a str) -> Arg<'a>
-    ensures rule { rule_of result ≡ flag_rule name.entry.now }
-    ensures local { result.global ≡ false }
-{
-    Arg::new(alloc, name).long(name).action(ArgAction::SetTrue)
 }

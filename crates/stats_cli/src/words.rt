@@ -1,15 +1,15 @@
 //! What a command line says.
-ghost use Rattle.std.specs.Prelude.{◌≡◌, Err, IfNone, IfOk, IfSome, option_map};
+ghost use Rattle.std.specs.Prelude.{◌≡◌, Err, IfNone, IfOk, IfSome};
 ghost use Rattle.clap.specs.Words.{first_value, found_of};
 ghost use Rattle.command_words.specs.Line.{texts};
 ghost use Rattle.command_words.specs.declared.fault.WordsFault.TheVariants.{Usage};
-ghost use Rattle.stats_cli.specs.Words.{IsSaid, IsStatsWords, StatsSaid, is_used, said_by};
+ghost use Rattle.stats_cli.specs.Words.{IsSaid, IsStatsWords, StatsSaid, said_by};
 
 use crate::parser::matches_of;
 use crate::value::StatsWords;
 use clap::ArgMatches;
 use coflow_units::MAX_SLOT_MS;
-use command_words::{WordsFault, is_file_name, setting_of, unit_of};
+use command_words::{WordsFault, is_file_name, is_used, setting_of, unit_of};
 use std::alloc::Global;
 
 /// Reads the words of a command line, the first of which is the program's name.
@@ -57,14 +57,4 @@ fn words_of<'a>(matches: &ArgMatches<'a>) -> Option<StatsWords<'a>>
         in_ms: time.is_some(),
         csv: is_used(matches.get_str("csv")),
     })
-}
-
-/// Whether a flag is used, by the value that the parser gives it.
-fn is_used(value: Option<&str>) -> bool
-    ensures { result ≡ is_used (option_map (λ s. s.now) value.entry) }
-{
-    match value {
-        Some(text) => text == "true",
-        None => false,
-    }
 }
