@@ -204,7 +204,7 @@ def refusals(folder):
     shutil.copy(os.path.join(TOP, "traces", "three-jobs.txt"), os.path.join(folder, "t"))
     shutil.copy(os.path.join(TOP, "traces", "shuffle-24x40.txt"), os.path.join(folder, "other"))
     write(folder, "r", ran(folder, ["plan", "t"], PLANNER)[1])
-    usage = "usage: sincronia_picture TRACE REPORT [--weights FILE] [--unit MEGABYTES] [--from SLOT] [--to SLOT] [--side in|out] [--slot-ms MILLISECONDS]"
+    usage = "usage: sincronia_picture TRACE REPORT|--policies [--weights FILE] [--unit MEGABYTES] [--from SLOT] [--to SLOT] [--side in|out] [--slot-ms MILLISECONDS]"
     right = "report: not right for this trace and these weights; sincronia check says why"
     rows = [
         (["t", "r", "--from", "3", "--to", "2"], 2, "window: no slot from 3 to 2"),

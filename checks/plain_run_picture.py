@@ -223,7 +223,7 @@ WORKED_PICTURES = [
     (["--to", "1", "--side", "out"], LEAST + "1.25 times the least", [(70, 260)], [], [70]),
     (["--slot-ms", "5"], LEAST + "1.34 times the least", [(70, 260), (481, 80)], [(584, 260), (790, 80)], [70, 481]),
 ]
-USAGE = "usage: sincronia_picture TRACE REPORT [--weights FILE] [--unit MEGABYTES] [--from SLOT] [--to SLOT] [--side in|out] [--slot-ms MILLISECONDS]"
+USAGE = "usage: sincronia_picture TRACE REPORT|--policies [--weights FILE] [--unit MEGABYTES] [--from SLOT] [--to SLOT] [--side in|out] [--slot-ms MILLISECONDS]"
 WORKED_REFUSALS = [
     (["t", "r", "--from", "8"], refused(2, "window: no slot from 8 to 7")),
     (["t", "r", "--from", "8", "--to", "9"], refused(2, "window: no slot from 8 to 7")),

@@ -37,9 +37,10 @@ use Rattle.command_files.specs.Causes.{HasCauseInFiles}
 use Rattle.command_files.specs.Reports.{IsAnyReportOf}
 use Rattle.command_files.specs.Ends.{IsReadFault, IsWriteFault}
 use Rattle.command_files.specs.Inputs.{IsInput}
-use Rattle.picture_cli.specs.Picture.{Draws, DrawsPlan, DrawsReport, HasMeans, HasPictureCause, HasVerdictCause, IsNearBest, IsPictureOf, IsRight, IsWrong, Judged, check_of}
+use Rattle.picture_cli.specs.Drawn.{HasReportCause}
+use Rattle.picture_cli.specs.Picture.{DrawsPlan, DrawsReport, ReportDrawn, HasMeans, HasVerdictCause, IsNearBest, IsPictureOf, IsRight, IsWrong, Judged, check_of}
 use Rattle.picture_cli.specs.Status.{as_check}
-use Rattle.picture_cli.specs.Words.{PictureSaid}
+use Rattle.picture_cli.specs.Words.{ReportSaid}
 use Rattle.picture_cli.specs.declared.status.PictureStatus.{PictureStatus}
 use Rattle.picture_cli.specs.declared.status.PictureStatus.TheVariants as drawn
 
@@ -76,7 +77,7 @@ weights_small t ws table same small = omega (arith, sum_by-le (λ w. w) 42949672
 
 -- ---- what was read and drawn
 
-abbrev pub judged_by : (told : Option Told) (said : PictureSaid) (t : TableFacts) (ws : List ℕ) (report : AnyReport) (Answer : TableFacts → List ℕ → ℕ → AnyReport → Type 0) →
+abbrev pub judged_by : (told : Option Told) (said : ReportSaid) (t : TableFacts) (ws : List ℕ) (report : AnyReport) (Answer : TableFacts → List ℕ → ℕ → AnyReport → Type 0) →
     IsInput told said.trace said.weights said.unit t ws → IsAnyReportOf told said.report report → Answer t ws said.slot_ms report → Judged told said Answer
 judged_by told said t ws report Answer input is answer = record { table = t; list = ws; input = input; report = report; report_is = is; answer_is = answer }
 
@@ -93,7 +94,7 @@ means_of i ids r weight sound some = record {
   none_below = λ slots valid. omega (arith, sound.bound_is_low, bound_law i _ slots sound.certificate sound.feasible valid, div-mul-le_self (10 * r.bound) weight);
 }
 
-pub draws_plan : (t : TableFacts) (ws : List ℕ) (r : Report) (said : PictureSaid) (text : List ℕ) (p : Picture) → IsSound (instance_of t ws) t.ids r → IsPictureOf t ws r said p →
+pub draws_plan : (t : TableFacts) (ws : List ℕ) (r : Report) (said : ReportSaid) (text : List ℕ) (p : Picture) → IsSound (instance_of t ws) t.ids r → IsPictureOf t ws r said p →
     text ≡ picture_text p → DrawsPlan t ws r said text
 draws_plan t ws r said text p sound shows same = record {
   right = sound;
@@ -105,12 +106,12 @@ draws_plan t ws r said text p sound shows same = record {
   text_is = same;
 }
 
-pub draws_by : (told : Option Told) (said : PictureSaid) (t : TableFacts) (ws : List ℕ) (report : AnyReport) (text : List ℕ) → IsInput told said.trace said.weights said.unit t ws →
-    IsAnyReportOf told said.report report → IsRight t ws said.slot_ms report → DrawsReport t ws report said text → Draws told said text
+pub draws_by : (told : Option Told) (said : ReportSaid) (t : TableFacts) (ws : List ℕ) (report : AnyReport) (text : List ℕ) → IsInput told said.trace said.weights said.unit t ws →
+    IsAnyReportOf told said.report report → IsRight t ws said.slot_ms report → DrawsReport t ws report said text → ReportDrawn told said text
 draws_by told said t ws report text input is right draws = record { judged = judged_by told said t ws report IsRight input is right; draws = draws }
 
-pub cause_by : (before now : ℕ) (old new : Option Told) (said : PictureSaid) (t : TableFacts) (ws : List ℕ) (report : AnyReport) (s : PictureStatus) →
-    IsInput old said.trace said.weights said.unit t ws → IsAnyReportOf old said.report report → HasVerdictCause t ws report said s → HasPictureCause before now old new said s
+pub cause_by : (before now : ℕ) (old new : Option Told) (said : ReportSaid) (t : TableFacts) (ws : List ℕ) (report : AnyReport) (s : PictureStatus) →
+    IsInput old said.trace said.weights said.unit t ws → IsAnyReportOf old said.report report → HasVerdictCause t ws report said s → HasReportCause before now old new said s
 cause_by before now old new said t ws report drawn.No input is wrong = judged_by old said t ws report IsWrong input is wrong
 cause_by before now old new said t ws report (drawn.NoSlots first last) input is (holds, cause) = (judged_by old said t ws report IsRight input is holds, cause)
 cause_by before now old new said t ws report (drawn.TooManyBars bars) input is (holds, cause) = (judged_by old said t ws report IsRight input is holds, cause)
@@ -119,7 +120,7 @@ cause_by before now old new said t ws report drawn.Ok input is (holds, cause) = 
 cause_by before now old new said t ws report drawn.Usage input is (holds, cause) = absurd cause
 
 -- no call to shelf or sink failed
-pub verdict_calls : (t : TableFacts) (ws : List ℕ) (report : AnyReport) (said : PictureSaid) (s : PictureStatus) → HasVerdictCause t ws report said s →
+pub verdict_calls : (t : TableFacts) (ws : List ℕ) (report : AnyReport) (said : ReportSaid) (s : PictureStatus) → HasVerdictCause t ws report said s →
     (IsReadFault (as_check s) → ⊥) × (IsWriteFault (as_check s) → ⊥)
 verdict_calls t ws report said drawn.No cause = (λ f. f, λ f. f)
 verdict_calls t ws report said (drawn.NoSlots first last) cause = (λ f. f, λ f. f)

@@ -27,7 +27,7 @@ use Rattle.release_bound.specs.Release.{IsReleased}
 use Rattle.schedule_model.proofs.CostSums.{parts_small}
 use Rattle.schedule_model.specs.RunList.{slots_in}
 use Rattle.picture_cli.specs.Picture.{DrawsRun, IsNearLeast, IsRunPictureOf, arrival_in, completed_in}
-use Rattle.picture_cli.specs.Words.{PictureSaid}
+use Rattle.picture_cli.specs.Words.{ReportSaid}
 
 -- no schedule that serves nobody before its arrival costs less than the total of a right online run
 abbrev pub OnlineLaw : Type 0
@@ -40,7 +40,7 @@ near_least law i arrival ids o a sound slots some released =
     let low : o.total - a ≤ least - a = omega (arith, law i arrival ids o slots sound released) in
     omega (arith, (div_ceil_times (100 * (o.cost - a)) (o.total - a) (omega (arith, some))).0, mul-le-mul_left (hundredths (o.cost - a) (o.total - a)) low)
 
-pub draws_run : OnlineLaw → (t : TableFacts) (ws : List ℕ) (o : Online) (said : PictureSaid) (text : List ℕ) (p : RunPicture) →
+pub draws_run : OnlineLaw → (t : TableFacts) (ws : List ℕ) (o : Online) (said : ReportSaid) (text : List ℕ) (p : RunPicture) →
     IsSoundOnline (instance_of t ws) (arrival_in t said.slot_ms) t.ids o → IsRunPictureOf t ws o said p → text ≡ run_picture_text p → DrawsRun t ws o said text
 draws_run law t ws o said text p sound shows same = record {
   right = sound;

@@ -28,7 +28,6 @@ use Rattle.picture.specs.RunSvg.{run_picture_text}
 use Rattle.online_check.specs.declared.any_report.AnyReport.{AnyReport}
 use Rattle.online_check.specs.declared.any_report.AnyReport.TheVariants.{Online, Plan}
 use Rattle.online_check.specs.declared.verdict.OnlineReason.{OnlineReason}
-use Rattle.online_check.specs.AnyReport.{IsAnyBadAt}
 use Rattle.online_check.specs.Arrivals.{arrivals_in}
 use Rattle.online_check.specs.Done.{slots_done}
 use Rattle.online_check.specs.Reasons.{IsFirstOnlineReason}
@@ -39,20 +38,18 @@ use Rattle.release_bound.specs.Best.{arrivals_cost}
 use Rattle.release_bound.specs.Release.{IsReleased}
 use Rattle.report_text.specs.declared.value.Report.{Report}
 use Rattle.schedule_model.specs.RunList.{slots_in}
-use Rattle.command_files.specs.Causes.{HasCauseInFiles}
 use Rattle.command_files.specs.Reports.{IsAnyReportOf}
-use Rattle.command_files.specs.Ends.{IsWriteFault}
 use Rattle.command_files.specs.Inputs.{IsInput}
 use Rattle.plans.specs.Totals.{BoundsEverySchedule}
 use Rattle.command_files.specs.declared.status.Status.TheVariants as status
 use Rattle.command_words.specs.Jobs.Job.{check_job}
 use Rattle.command_words.specs.Words.{Said}
-use Rattle.picture_cli.specs.Words.{PictureSaid}
+use Rattle.picture_cli.specs.Words.{ReportSaid}
 use Rattle.picture_cli.specs.declared.status.PictureStatus.{PictureStatus}
-use Rattle.picture_cli.specs.declared.status.PictureStatus.TheVariants.{Ended, No, NoSlots, Ok, TooManyBars}
+use Rattle.picture_cli.specs.declared.status.PictureStatus.TheVariants.{Ended, No, NoSlots, TooManyBars}
 
 -- what `sincronia check` would be said with the same files
-abbrev pub check_of : PictureSaid → Said
+abbrev pub check_of : ReportSaid → Said
 check_of said = record {
   job = check_job said.trace said.report;
   weights = said.weights;
@@ -71,7 +68,7 @@ slots_of (Plan r) = slots_in r.runs
 slots_of (Online o) = slots_in o.runs
 
 -- the window that is drawn: its last slot is at most the last one of the schedule
-abbrev pub window_of : PictureSaid → AnyReport → Window
+abbrev pub window_of : ReportSaid → AnyReport → Window
 window_of said report = record {
   side = said.side;
   first = said.from;
@@ -81,7 +78,7 @@ window_of said report = record {
 -- The picture shows the report: a window with a slot, the bars of its schedule in the window, which are no more than a
 -- picture may have, the completions of all coflows of the table and their curve, the ids and the weights, the places in
 -- the report's order, and the stated cost and bound.
-pub record IsPictureOf (t : TableFacts) (ws : List ℕ) (r : Report) (said : PictureSaid) (p : Picture) : Type 0
+pub record IsPictureOf (t : TableFacts) (ws : List ℕ) (r : Report) (said : ReportSaid) (p : Picture) : Type 0
   where
     pub window_is : p.window ≡ window_of said (Plan r)
     pub some : p.window.first ≤ p.window.last
@@ -105,7 +102,7 @@ completed_in t o = filter (λ c. not (slice_index (slots_done o.done) c == 0)) (
 
 -- The picture shows the online run: a span with a slot, the arrivals and the completions of the coflows that have units,
 -- the publishings, and the stated cost and total with what the arrivals cost.
-pub record IsRunPictureOf (t : TableFacts) (ws : List ℕ) (o : Run) (said : PictureSaid) (p : RunPicture) : Type 0
+pub record IsRunPictureOf (t : TableFacts) (ws : List ℕ) (o : Run) (said : ReportSaid) (p : RunPicture) : Type 0
   where
     pub first_is : p.span.first ≡ said.from
     pub last_is : p.span.last ≡ min said.to (length (slots_in o.runs))
@@ -127,7 +124,7 @@ IsRun (Plan r) = ⊥
 IsRun (Online o) = Unit {0}
 
 -- why a right report has no picture
-abbrev pub HasNoPicture : TableFacts → AnyReport → PictureSaid → PictureStatus → Type 0
+abbrev pub HasNoPicture : TableFacts → AnyReport → ReportSaid → PictureStatus → Type 0
 HasNoPicture t report said (NoSlots first last) =
     (first ≡ (window_of said report).first) × (last ≡ (window_of said report).last) × (last < first)
 HasNoPicture t report said (TooManyBars bars) = IsPlan report ×
@@ -147,13 +144,13 @@ IsWrong t ws slot_ms (Online o) = (reason : OnlineReason) ×
     IsFirstOnlineReason (instance_of t ws) (arrival_in t slot_ms) t.ids o reason
 
 -- why a report has no picture: the answer of its check is no, or, where it is yes, one of those
-abbrev pub HasVerdictCause : TableFacts → List ℕ → AnyReport → PictureSaid → PictureStatus → Type 0
+abbrev pub HasVerdictCause : TableFacts → List ℕ → AnyReport → ReportSaid → PictureStatus → Type 0
 HasVerdictCause t ws report said No = IsWrong t ws said.slot_ms report
 HasVerdictCause t ws report said (Ended s) = s ≡ status.NoMemory
 HasVerdictCause t ws report said s = IsRight t ws said.slot_ms report × HasNoPicture t report said s
 
 -- the instance that the files give, the report, and the answer of its check
-pub record Judged (told : Option Told) (said : PictureSaid) (Answer : TableFacts → List ℕ → ℕ → AnyReport → Type 0) :
+pub record Judged (told : Option Told) (said : ReportSaid) (Answer : TableFacts → List ℕ → ℕ → AnyReport → Type 0) :
     Type 0 where
   pub table : TableFacts
   pub list : List ℕ
@@ -183,7 +180,7 @@ IsNearLeast i arrival o a = (slots : List (List ℕ)) → a < o.total → IsRele
 -- The plan is right, so its bound is at most the cost of every valid schedule of the instance, and where the bound is
 -- above 0, its cost is at most as many times that cost as the title says. Where the weights add up to more than 0, the
 -- means are as the title says. And this is the text of its picture.
-pub record DrawsPlan (t : TableFacts) (ws : List ℕ) (r : Report) (said : PictureSaid) (text : List ℕ) : Type 0 where
+pub record DrawsPlan (t : TableFacts) (ws : List ℕ) (r : Report) (said : ReportSaid) (text : List ℕ) : Type 0 where
   pub right : IsSound (instance_of t ws) t.ids r
   pub bounds : BoundsEverySchedule (instance_of t ws) r
   pub near : IsNearBest (instance_of t ws) r
@@ -194,7 +191,7 @@ pub record DrawsPlan (t : TableFacts) (ws : List ℕ) (r : Report) (said : Pictu
 
 -- The online run is right, so no schedule that waits for arrivals costs less than its total, and without arrivals its
 -- cost is at most as many times the cost of each of these as the title says. And this is the text of its picture.
-pub record DrawsRun (t : TableFacts) (ws : List ℕ) (o : Run) (said : PictureSaid) (text : List ℕ) : Type 0 where
+pub record DrawsRun (t : TableFacts) (ws : List ℕ) (o : Run) (said : ReportSaid) (text : List ℕ) : Type 0 where
   pub right : IsSoundOnline (instance_of t ws) (arrival_in t said.slot_ms) t.ids o
   pub bounds : BoundsReleasedSchedules (instance_of t ws) (arrival_in t said.slot_ms) o
   pub near : IsNearLeast (instance_of t ws) (arrival_in t said.slot_ms) o
@@ -204,28 +201,11 @@ pub record DrawsRun (t : TableFacts) (ws : List ℕ) (o : Run) (said : PictureSa
   pub text_is : text ≡ run_picture_text picture
 
 -- the text is that of the report's picture
-abbrev pub DrawsReport : TableFacts → List ℕ → AnyReport → PictureSaid → List ℕ → Type 0
+abbrev pub DrawsReport : TableFacts → List ℕ → AnyReport → ReportSaid → List ℕ → Type 0
 DrawsReport t ws (Plan r) said text = DrawsPlan t ws r said text
 DrawsReport t ws (Online o) said text = DrawsRun t ws o said text
 
 -- the report of the files is right, and this is the text of its picture
-pub record Draws (told : Option Told) (said : PictureSaid) (text : List ℕ) : Type 0 where
+pub record ReportDrawn (told : Option Told) (said : ReportSaid) (text : List ℕ) : Type 0 where
   pub judged : Judged told said IsRight
   pub draws : DrawsReport judged.table judged.list judged.report said text
-
--- The cause of a status that comes before anything is written.
--- The shelf had and has these counts of faults, and told and tells these files.
-abbrev pub HasPictureCause : ℕ → ℕ → Option Told → Option Told → PictureSaid → PictureStatus → Type 0
-HasPictureCause before now old new said No = Judged old said IsWrong
-HasPictureCause before now old new said (NoSlots first last) =
-    (j : Judged old said IsRight) × HasNoPicture j.table j.report said (NoSlots first last)
-HasPictureCause before now old new said (TooManyBars bars) =
-    (j : Judged old said IsRight) × HasNoPicture j.table j.report said (TooManyBars bars)
-HasPictureCause before now old new said (Ended s) = HasCauseInFiles IsAnyBadAt before now old new (check_of said) s
-HasPictureCause before now old new said s = ⊥
-
--- there was a picture to be written
-abbrev pub HasPicture : PictureStatus → Type 0
-HasPicture Ok = Unit {0}
-HasPicture (Ended s) = IsWriteFault s
-HasPicture s = ⊥

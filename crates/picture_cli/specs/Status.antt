@@ -36,8 +36,8 @@ as_check (Ended s) = s
 abbrev pub line_of : PictureStatus → List ℕ
 line_of Ok = []
 line_of No = codes "report: not right for this trace and these weights; sincronia check says why"
-line_of Usage = codes "usage: sincronia_picture TRACE REPORT [--weights FILE] [--unit MEGABYTES] [--from SLOT] " ++
-    codes "[--to SLOT] [--side in|out] [--slot-ms MILLISECONDS]"
+line_of Usage = codes "usage: sincronia_picture TRACE REPORT|--policies [--weights FILE] [--unit MEGABYTES] " ++
+    codes "[--from SLOT] [--to SLOT] [--side in|out] [--slot-ms MILLISECONDS]"
 line_of (NoSlots first last) = codes "window: no slot from " ++ decimal first ++ codes " to " ++ decimal last
 line_of (TooManyBars bars) = codes "limit: bars " ++ decimal bars ++
     codes ", at most 262144 are drawn; choose a window with --from and --to"

@@ -2,7 +2,7 @@
 use Rattle.std.specs.Prelude.{List, ℕ, Option}
 use Rattle.outside.specs.Shelf.{Told}
 use Rattle.command_files.specs.Written.{Appends, AppendsBeginning}
-use Rattle.picture_cli.specs.Picture.{Draws}
+use Rattle.picture_cli.specs.Drawn.{Draws}
 use Rattle.picture_cli.specs.Words.{PictureSaid}
 
 -- the picture was written whole

@@ -13,11 +13,11 @@ ghost use Rattle.online_check.specs.declared.any_report.AnyReport.TheVariants as
 ghost use Rattle.report_text.specs.Report.{IsReport};
 ghost use Rattle.schedule_model.specs.RunList.{slots_in};
 ghost use Rattle.picture_cli.specs.Picture.{DrawsPlan, DrawsReport, HasNoPicture, HasVerdictCause, IsPictureOf, IsRight};
-ghost use Rattle.picture_cli.specs.Words.{said_by};
+ghost use Rattle.picture_cli.specs.Words.{report_by};
 
 use crate::run_drawing::{check_run, draw_run};
 use crate::status::PictureStatus;
-use crate::value::PictureWords;
+use crate::value::ReportWords;
 use cert_check::{Named, Verdict, coflows_of};
 use coflow_units::{Items, NoMemory};
 use command_files::Input;
@@ -33,7 +33,7 @@ use std::alloc::Global;
 /// The text of the picture of a report, which is checked first.
 pub(crate) fn picture_of<'a>(
     alloc: Global,
-    words: PictureWords<'a>,
+    words: ReportWords<'a>,
     input: &Input,
     report: &AnyReport,
 ) -> Result<Vec<u8>, PictureStatus>
@@ -41,11 +41,11 @@ pub(crate) fn picture_of<'a>(
     requires weights { All (λ w. w ≤ MAX_WEIGHT) input.now.weights }
     requires report { IsAnyReport report.now }
     ensures right { OnOk result
-        (IsRight input.now.table input.now.weights (said_by words.entry).slot_ms report.now) }
+        (IsRight input.now.table input.now.weights (report_by words.entry).slot_ms report.now) }
     ensures drawn { IfOk result (λ text.
-        DrawsReport input.now.table input.now.weights report.now (said_by words.entry) text.items) }
+        DrawsReport input.now.table input.now.weights report.now (report_by words.entry) text.items) }
     ensures cause { IfErr result
-        (HasVerdictCause input.now.table input.now.weights report.now (said_by words.entry)) }
+        (HasVerdictCause input.now.table input.now.weights report.now (report_by words.entry)) }
 {
     match report {
         AnyReport::Plan(plan) => plan_text(alloc, words, input, plan),
@@ -56,7 +56,7 @@ pub(crate) fn picture_of<'a>(
 /// The text of the picture of an online run, which is checked first.
 fn run_text<'a>(
     alloc: Global,
-    words: PictureWords<'a>,
+    words: ReportWords<'a>,
     input: &Input,
     report: &AnyReport,
     online: &Online,
@@ -66,11 +66,11 @@ fn run_text<'a>(
     requires report { IsAnyReport report.now }
     requires run { report.now ≡ any.Online online.now }
     ensures right { OnOk result
-        (IsRight input.now.table input.now.weights (said_by words.entry).slot_ms report.now) }
+        (IsRight input.now.table input.now.weights (report_by words.entry).slot_ms report.now) }
     ensures drawn { IfOk result (λ text.
-        DrawsReport input.now.table input.now.weights report.now (said_by words.entry) text.items) }
+        DrawsReport input.now.table input.now.weights report.now (report_by words.entry) text.items) }
     ensures cause { IfErr result
-        (HasVerdictCause input.now.table input.now.weights report.now (said_by words.entry)) }
+        (HasVerdictCause input.now.table input.now.weights report.now (report_by words.entry)) }
 {
     check_run(alloc, words, input, report)?;
     let text = draw_run(alloc, words, input, online)?;
@@ -80,7 +80,7 @@ fn run_text<'a>(
 /// The text of the picture of a plan, which is checked first.
 fn plan_text<'a>(
     alloc: Global,
-    words: PictureWords<'a>,
+    words: ReportWords<'a>,
     input: &Input,
     report: &Report,
 ) -> Result<Vec<u8>, PictureStatus>
@@ -90,9 +90,9 @@ fn plan_text<'a>(
     ensures right { OnOk result
         (IsVerdict (instance_of input.now.table input.now.weights) input.now.table.ids report.now Verdict.Yes) }
     ensures drawn { IfOk result (λ text.
-        DrawsPlan input.now.table input.now.weights report.now (said_by words.entry) text.items) }
+        DrawsPlan input.now.table input.now.weights report.now (report_by words.entry) text.items) }
     ensures cause { IfErr result
-        (HasVerdictCause input.now.table input.now.weights (any.Plan report.now) (said_by words.entry)) }
+        (HasVerdictCause input.now.table input.now.weights (any.Plan report.now) (report_by words.entry)) }
 {
     match verdict_on(alloc, &input.table, input.weights.as_slice(), report)? {
         Verdict::Yes => draw_plan(alloc, words, input, report),
@@ -103,7 +103,7 @@ fn plan_text<'a>(
 /// The text of the picture of a right plan.
 fn draw_plan<'a>(
     alloc: Global,
-    words: PictureWords<'a>,
+    words: ReportWords<'a>,
     input: &Input,
     report: &Report,
 ) -> Result<Vec<u8>, PictureStatus>
@@ -112,8 +112,8 @@ fn draw_plan<'a>(
     requires report { IsReport report.now }
     requires right { IsSound (instance_of input.now.table input.now.weights) input.now.table.ids report.now }
     ensures drawn { IfOk result (λ text.
-        DrawsPlan input.now.table input.now.weights report.now (said_by words.entry) text.items) }
-    ensures cause { IfErr result (HasNoPicture input.now.table (any.Plan report.now) (said_by words.entry)) }
+        DrawsPlan input.now.table input.now.weights report.now (report_by words.entry) text.items) }
+    ensures cause { IfErr result (HasNoPicture input.now.table (any.Plan report.now) (report_by words.entry)) }
 {
     let picture = picture_in(alloc, words, input, report)?;
     let text = write_picture(alloc, &picture)?;
@@ -123,7 +123,7 @@ fn draw_plan<'a>(
 /// The picture of a right plan.
 fn picture_in<'a>(
     alloc: Global,
-    words: PictureWords<'a>,
+    words: ReportWords<'a>,
     input: &Input,
     report: &Report,
 ) -> Result<Picture, PictureStatus>
@@ -132,9 +132,9 @@ fn picture_in<'a>(
     requires report { IsReport report.now }
     requires right { IsSound (instance_of input.now.table input.now.weights) input.now.table.ids report.now }
     ensures shows { IfOk result
-        (IsPictureOf input.now.table input.now.weights report.now (said_by words.entry)) }
+        (IsPictureOf input.now.table input.now.weights report.now (report_by words.entry)) }
     ensures drawable { IfOk result IsDrawable }
-    ensures cause { IfErr result (HasNoPicture input.now.table (any.Plan report.now) (said_by words.entry)) }
+    ensures cause { IfErr result (HasNoPicture input.now.table (any.Plan report.now) (report_by words.entry)) }
 {
     let runs = &report.runs;
     let window = window_in(words, runs);
@@ -165,11 +165,11 @@ fn picture_in<'a>(
 }
 
 /// The window that is drawn of a schedule.
-fn window_in<'a>(words: PictureWords<'a>, runs: &Runs) -> Window
+fn window_in<'a>(words: ReportWords<'a>, runs: &Runs) -> Window
     requires { length (slots_in runs.now) ≤ MAX_SLOT }
-    ensures side { result.side ≡ (said_by words.entry).side }
-    ensures first { result.first ≡ (said_by words.entry).from }
-    ensures last { result.last ≡ min (said_by words.entry).to (length (slots_in runs.now)) }
+    ensures side { result.side ≡ (report_by words.entry).side }
+    ensures first { result.first ≡ (report_by words.entry).from }
+    ensures last { result.last ≡ min (report_by words.entry).to (length (slots_in runs.now)) }
 {
     Window {
         side: words.side,

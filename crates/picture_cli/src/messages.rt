@@ -16,7 +16,7 @@ impl fmt::Display for PictureStatus {
                 "report: not right for this trace and these weights; sincronia check says why",
             ),
             PictureStatus::Usage => f.write_str(
-                "usage: sincronia_picture TRACE REPORT [--weights FILE] [--unit MEGABYTES] [--from SLOT] [--to SLOT] [--side in|out] [--slot-ms MILLISECONDS]",
+                "usage: sincronia_picture TRACE REPORT|--policies [--weights FILE] [--unit MEGABYTES] [--from SLOT] [--to SLOT] [--side in|out] [--slot-ms MILLISECONDS]",
             ),
             PictureStatus::NoSlots { first, last } => {
                 write!(f, "window: no slot from {first} to {last}")

@@ -3,14 +3,16 @@ ghost use Rattle.std.specs.Prelude.{◌≡◌, ◌≢◌, Err, IfOk, []};
 ghost use Rattle.clap.specs.Words.{app_of, fault_of, found_of};
 ghost use Rattle.command_words.specs.Line.{texts};
 ghost use Rattle.command_words.specs.declared.fault.WordsFault.TheVariants.{Usage};
-ghost use Rattle.picture_cli.specs.Parser.{IsFound, app, app_with_names, empty_app};
+ghost use Rattle.picture_cli.specs.Parser.{IsFound, app, app_with_names, app_with_options, empty_app};
 
 use clap::{ArgMatches, Command};
-use command_words::{WordsFault, fault_by, needed_name, option_named, with_arg};
+use command_words::{
+    WordsFault, fault_by, flag_named, name_of, needed_name, option_named, with_arg,
+};
 use std::alloc::{AllocError, Global};
 
-/// What the words give each argument. `Usage` comes where a word is refused, an argument is used twice, or TRACE or
-/// REPORT is missing.
+/// What the words give each argument. `Usage` comes where a word is refused, an argument is used twice, or TRACE is
+/// missing.
 pub(crate) fn matches_of<'a>(
     alloc: Global,
     words: &'a [String],
@@ -31,6 +33,13 @@ pub(crate) fn matches_of<'a>(
 fn picture_command<'a>(alloc: Global) -> Result<Command<'a>, AllocError>
     ensures { IfOk result (λ c. app_of c ≡ app) }
 {
+    let command = command_with_options(alloc);
+    with_arg(command, flag_named(alloc, "policies"))
+}
+
+fn command_with_options<'a>(alloc: Global) -> Result<Command<'a>, AllocError>
+    ensures { IfOk result (λ c. app_of c ≡ app_with_options) }
+{
     let command = command_with_names(alloc);
     let command = with_arg(command, option_named(alloc, "weights"));
     let command = with_arg(command, option_named(alloc, "unit"));
@@ -44,7 +53,7 @@ fn command_with_names<'a>(alloc: Global) -> Result<Command<'a>, AllocError>
     ensures { IfOk result (λ c. app_of c ≡ app_with_names) }
 {
     let command = with_arg(Ok(empty_command(alloc)), needed_name(alloc, "TRACE"));
-    with_arg(command, needed_name(alloc, "REPORT"))
+    with_arg(command, name_of(alloc, "REPORT"))
 }
 
 fn empty_command<'a>(alloc: Global) -> Command<'a>

@@ -12,11 +12,11 @@ ghost use Rattle.online_text.specs.declared.value.Epoch.{Epoch};
 ghost use Rattle.picture.specs.Run.{IsRunDrawable};
 ghost use Rattle.schedule_model.specs.RunList.{slots_in};
 ghost use Rattle.picture_cli.specs.Picture.{DrawsRun, HasNoPicture, HasVerdictCause, IsRight, IsRun, IsRunPictureOf, arrival_in};
-ghost use Rattle.picture_cli.specs.Words.{said_by};
+ghost use Rattle.picture_cli.specs.Words.{report_by};
 
 use crate::drawing::slots_of;
 use crate::status::PictureStatus;
-use crate::value::PictureWords;
+use crate::value::ReportWords;
 use coflow_units::NoMemory;
 use command_files::Input;
 use online_check::laws::yes_bounds_released_schedules;
@@ -30,7 +30,7 @@ use std::alloc::Global;
 /// Checks an online run. The error is `No` where it is not right.
 pub(crate) fn check_run<'a>(
     alloc: Global,
-    words: PictureWords<'a>,
+    words: ReportWords<'a>,
     input: &Input,
     report: &AnyReport,
 ) -> Result<(), PictureStatus>
@@ -39,9 +39,9 @@ pub(crate) fn check_run<'a>(
     requires report { IsAnyReport report.now }
     requires run { IsRun report.now }
     ensures right { OnOk result
-        (IsRight input.now.table input.now.weights (said_by words.entry).slot_ms report.now) }
+        (IsRight input.now.table input.now.weights (report_by words.entry).slot_ms report.now) }
     ensures cause { IfErr result
-        (HasVerdictCause input.now.table input.now.weights report.now (said_by words.entry)) }
+        (HasVerdictCause input.now.table input.now.weights report.now (report_by words.entry)) }
 {
     let weights = input.weights.as_slice();
     let judged = judge(alloc, &input.table, weights, words.slot_ms, report)?;
@@ -56,7 +56,7 @@ pub(crate) fn check_run<'a>(
 /// The text of the picture of a right online run.
 pub(crate) fn draw_run<'a>(
     alloc: Global,
-    words: PictureWords<'a>,
+    words: ReportWords<'a>,
     input: &Input,
     online: &Online,
 ) -> Result<Vec<u8>, PictureStatus>
@@ -64,10 +64,10 @@ pub(crate) fn draw_run<'a>(
     requires weights { All (λ w. w ≤ MAX_WEIGHT) input.now.weights }
     requires online { IsOnline online.now }
     requires right { IsSoundOnline (instance_of input.now.table input.now.weights)
-        (arrival_in input.now.table (said_by words).slot_ms) input.now.table.ids online.now }
+        (arrival_in input.now.table (report_by words).slot_ms) input.now.table.ids online.now }
     ensures drawn { IfOk result (λ text.
-        DrawsRun input.now.table input.now.weights online.now (said_by words.entry) text.items) }
-    ensures cause { IfErr result (HasNoPicture input.now.table (any.Online online.now) (said_by words.entry)) }
+        DrawsRun input.now.table input.now.weights online.now (report_by words.entry) text.items) }
+    ensures cause { IfErr result (HasNoPicture input.now.table (any.Online online.now) (report_by words.entry)) }
 {
     yes_bounds_released_schedules();
     let picture = run_in(alloc, words, input, online)?;
@@ -78,7 +78,7 @@ pub(crate) fn draw_run<'a>(
 /// The picture of a right online run.
 fn run_in<'a>(
     alloc: Global,
-    words: PictureWords<'a>,
+    words: ReportWords<'a>,
     input: &Input,
     online: &Online,
 ) -> Result<RunPicture, PictureStatus>
@@ -86,11 +86,11 @@ fn run_in<'a>(
     requires weights { All (λ w. w ≤ MAX_WEIGHT) input.now.weights }
     requires online { IsOnline online.now }
     requires right { IsSoundOnline (instance_of input.now.table input.now.weights)
-        (arrival_in input.now.table (said_by words).slot_ms) input.now.table.ids online.now }
+        (arrival_in input.now.table (report_by words).slot_ms) input.now.table.ids online.now }
     ensures shows { IfOk result
-        (IsRunPictureOf input.now.table input.now.weights online.now (said_by words.entry)) }
+        (IsRunPictureOf input.now.table input.now.weights online.now (report_by words.entry)) }
     ensures drawable { IfOk result IsRunDrawable }
-    ensures cause { IfErr result (HasNoPicture input.now.table (any.Online online.now) (said_by words.entry)) }
+    ensures cause { IfErr result (HasNoPicture input.now.table (any.Online online.now) (report_by words.entry)) }
 {
     let span = span_in(words, &online.runs);
     if span.last < span.first {
@@ -116,10 +116,10 @@ fn run_in<'a>(
 }
 
 /// The slots that are drawn of a schedule.
-fn span_in<'a>(words: PictureWords<'a>, runs: &Runs) -> Span
+fn span_in<'a>(words: ReportWords<'a>, runs: &Runs) -> Span
     requires { length (slots_in runs.now) ≤ MAX_SLOT }
-    ensures first { result.first ≡ (said_by words.entry).from }
-    ensures last { result.last ≡ min (said_by words.entry).to (length (slots_in runs.now)) }
+    ensures first { result.first ≡ (report_by words.entry).from }
+    ensures last { result.last ≡ min (report_by words.entry).to (length (slots_in runs.now)) }
 {
     Span {
         first: words.from,

@@ -9,7 +9,7 @@ use Rattle.picture.specs.declared.value.TheConstants.{MAX_BARS}
 use Rattle.picture.specs.Bars.{bar_count}
 use Rattle.picture.specs.Order.{IsPlaces}
 use Rattle.report_text.specs.declared.value.PlaceLine.{PlaceLine}
-use Rattle.picture_cli.specs.Words.{said_by}
+use Rattle.picture_cli.specs.Words.{report_by}
 use Rattle.picture_cli.proofs.PictureFacts.{bars_along, bars_inside, bound_small, clear_along, cost_small, curve_along, ends_along, names_along, names_flows, slots_short, weights_small, window_same}
 use Rattle.picture_cli.proofs.drawing.picture_in.Goals as goal
 
@@ -40,7 +40,7 @@ pub returns-clause-shows : goal.returns-clause-shows
 returns-clause-shows c =
     let table = c.args.input.now.table in
     let slots = slots_in c.args.report.now.runs in
-    let said = said_by c.args.words in
+    let said = report_by c.args.words in
     record {
       window_is = window_same c.window_in-window.result said.side said.from (min said.to (length slots)) c.window_in-window.ensures.side c.window_in-window.ensures.first
           c.window_in-window.ensures.last;

@@ -6,26 +6,26 @@ use Rattle.command_files.proofs.ShelfFacts.{files_kept, passed_on}
 use Rattle.command_files.proofs.InputTurns.{counts_on}
 use Rattle.command_files.proofs.FileTurns.{input_in_turn, report_in_turn}
 use Rattle.picture_cli.specs.Picture.{check_of}
-use Rattle.picture_cli.specs.Words.{said_by}
+use Rattle.picture_cli.specs.Words.{report_by}
 use Rattle.picture_cli.proofs.files.read_files.Goals as goal
 
 pub returns-in_err-input-clause-cause : goal.returns-in_err-input-clause-cause
 returns-in_err-input-clause-cause g c =
     passed_on c.from_residual.result c.in_err-input.field-0.0 _ c.from_residual.ensures.1
     (input_cause IsAnyBadAt (g.H.Shelf.faults c.args.shelf.now) (g.H.Shelf.faults c.read_input.new.shelf) (g.H.Shelf.told c.args.shelf.now) (g.H.Shelf.told c.read_input.new.shelf)
-    (check_of (said_by c.args.words)) c.in_err-input.field-0.0 c.in_err-input.ensures.cause)
+    (check_of (report_by c.args.words)) c.in_err-input.field-0.0 c.in_err-input.ensures.cause)
 
 pub returns-in_err-input-clause-in_turn : goal.returns-in_err-input-clause-in_turn
 returns-in_err-input-clause-in_turn g c =
     passed_on c.from_residual.result c.in_err-input.field-0.0 _ c.from_residual.ensures.1
-    (input_in_turn (g.H.Shelf.told c.args.shelf.now) (g.H.Shelf.told c.read_input.new.shelf) (check_of (said_by c.args.words)) c.in_err-input.field-0.0
+    (input_in_turn (g.H.Shelf.told c.args.shelf.now) (g.H.Shelf.told c.read_input.new.shelf) (check_of (report_by c.args.words)) c.in_err-input.field-0.0
     c.in_err-input.ensures.in_turn c.read_input.ensures.no_report c.read_input.ensures.no_script)
 
 pub returns-in_err-report-clause-cause : goal.returns-in_err-report-clause-cause
 returns-in_err-report-clause-cause g c =
     passed_on c.from_residual-in_err-report.result c.in_err-report.field-0.0 _ c.from_residual-in_err-report.ensures.1
     (from_report IsAnyBadAt (g.H.Shelf.faults c.args.shelf.now) (g.H.Shelf.faults c.read_input.new.shelf) (g.H.Shelf.faults c.read_any_report_file.new.shelf)
-    (g.H.Shelf.told c.args.shelf.now) (g.H.Shelf.told c.read_input.new.shelf) (g.H.Shelf.told c.read_any_report_file.new.shelf) (check_of (said_by c.args.words))
+    (g.H.Shelf.told c.args.shelf.now) (g.H.Shelf.told c.read_input.new.shelf) (g.H.Shelf.told c.read_any_report_file.new.shelf) (check_of (report_by c.args.words))
     c.args.words.report.now c.in_err-report.field-0.0
     refl refl c.read_input.ensures.later c.read_input.ensures.keeps c.in_ok-input.ensures.table c.in_err-report.ensures.cause)
 
@@ -33,7 +33,7 @@ pub returns-in_err-report-clause-in_turn : goal.returns-in_err-report-clause-in_
 returns-in_err-report-clause-in_turn g c =
     passed_on c.from_residual-in_err-report.result c.in_err-report.field-0.0 _ c.from_residual-in_err-report.ensures.1
     (report_in_turn IsAnyBadAt (g.H.Shelf.told c.args.shelf.now) (g.H.Shelf.told c.read_input.new.shelf) (g.H.Shelf.told c.read_any_report_file.new.shelf)
-    (check_of (said_by c.args.words))
+    (check_of (report_by c.args.words))
     c.args.words.report.now c.in_err-report.field-0.0 (g.H.Shelf.faults c.read_input.new.shelf) (g.H.Shelf.faults c.read_any_report_file.new.shelf)
     refl c.read_input.ensures.keeps c.in_ok-input.ensures.table c.in_ok-input.ensures.read_out c.read_input.ensures.no_script
     c.read_any_report_file.ensures.others c.in_err-report.ensures.cause)
@@ -58,12 +58,12 @@ returns-clause-report g c =
 
 pub returns-clause-good : goal.returns-clause-good
 returns-clause-good g c =
-    text_good IsAnyText (g.H.Shelf.told c.args.shelf.now) (g.H.Shelf.told c.read_input.new.shelf) (check_of (said_by c.args.words)) c.args.words.report.now
+    text_good IsAnyText (g.H.Shelf.told c.args.shelf.now) (g.H.Shelf.told c.read_input.new.shelf) (check_of (report_by c.args.words)) c.args.words.report.now
     c.in_ok-report.report refl
     c.read_input.ensures.keeps c.in_ok-input.ensures.table c.in_ok-report.ensures.report.reads
 
 pub returns-clause-read_out : goal.returns-clause-read_out
 returns-clause-read_out g c =
-    checked_out (g.H.Shelf.told c.args.shelf.now) (g.H.Shelf.told c.read_input.new.shelf) (g.H.Shelf.told c.read_any_report_file.new.shelf) (check_of (said_by c.args.words))
+    checked_out (g.H.Shelf.told c.args.shelf.now) (g.H.Shelf.told c.read_input.new.shelf) (g.H.Shelf.told c.read_any_report_file.new.shelf) (check_of (report_by c.args.words))
     c.args.words.trace.now c.args.words.report.now refl refl
     c.read_input.ensures.keeps c.in_ok-input.ensures.read_out c.read_input.ensures.no_script c.read_any_report_file.ensures.others c.in_ok-report.ensures.read_out

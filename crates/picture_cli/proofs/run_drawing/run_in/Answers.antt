@@ -1,4 +1,4 @@
-use Rattle.std.proofs.Common.{◌≡◌, ◌∙◌, ◌≤◌, ℕ, List, ap, length, map, min, arith}
+use Rattle.std.proofs.Common.{◌≡◌, ◌∙◌, ◌≤◌, List, ap, length, map, min, arith}
 use Rattle.std.specs.Prelude.{slice_index}
 use Rattle.online_check.specs.Done.{slots_done}
 use Rattle.online_text.specs.declared.value.Epoch.{Epoch}
@@ -6,7 +6,7 @@ use Rattle.picture.specs.declared.run_value.RunCosts.{RunCosts}
 use Rattle.picture.specs.declared.value.Span.{Span}
 use Rattle.schedule_model.specs.RunList.{slots_in}
 use Rattle.picture_cli.specs.Picture.{arrival_in, completed_in}
-use Rattle.picture_cli.proofs.RunFacts.{completed_as, completed_few, cost_as, few_of, numbers_as, run_as, run_cost_small, run_short}
+use Rattle.picture_cli.proofs.RunFacts.{completed_as, cost_as, few_of, numbers_as, run_as, run_cost_small, run_short}
 use Rattle.picture_cli.proofs.run_drawing.run_in.Goals as goal
 
 pub span_in-span-requires : goal.span_in-span-requires
